@@ -1,15 +1,17 @@
 -- The largest member of a union, found member by member.
 use Rattle.std.specs.Prelude.{IfSome}
-use Rattle.std.proofs.Common.{◌≡◌, ℕ, ◌+◌, ◌<◌, ◌≤◌, Bool, true, false, List, length, slice_get, Option, None, Some, nat_lt, if◌then◌else◌, refl, ap, sym, subst, ◌∙◌, inl, inr, arith}
+use Rattle.std.proofs.Common.{◌≡◌, ℕ, zero, suc, get_or, take, ◌+◌, ◌<◌, ◌≤◌, Bool, true, false, List, length, slice_get, Option, None, Some, nat_lt, if◌then◌else◌, refl, ap, sym, subst, ◌∙◌, inl, inr, arith}
 use Rattle.std.specs.List.{Contains, All}
 use Rattle.std.proofs.lemmas.Bool.{cases_lt}
 use Rattle.std.proofs.lemmas.Bool.Decides.{nat_tests}
-use Rattle.std.proofs.lemmas.Option.{slice_get_within, get_or_from_slice_get}
+use Rattle.std.proofs.lemmas.List.{take_more, take_all}
+use Rattle.std.proofs.lemmas.Option.{slice_get-get_or, slice_get_within, get_or_from_slice_get}
 use Rattle.std.proofs.lemmas.List.Elements.{All-contains}
 use Rattle.cc_base.specs.declared.number.TypeId.{TypeId}
 use Rattle.c_types.specs.Table.{Table, IsType, IsUnion, IsComplete, members_at}
 use Rattle.c_types.specs.Layouts.{size_of}
-use Rattle.c_types.specs.PointerCounts.{larger}
+use Rattle.c_types.specs.PointerCounts.{larger, largest_member}
+use Rattle.c_types.proofs.PointerCounts.{largest_more as one_more}
 use Rattle.c_types.specs.Equality.{cells_of, physically_equal, begins_with}
 use Rattle.c_types.specs.Contents.{HoldsMixed, IsLargest}
 use Rattle.c_types.specs.Sound.{IsWellFormed}
@@ -132,3 +134,21 @@ module _ (table : Table) (w : IsWellFormed table) (v : TypeId) (iu : IsUnion tab
   pub some_largest : (i : ℕ) (o : Option TypeId) → length (members_at table v) ≤ i → IsLargestSoFar table v i o → IfSome o (IsLargest table v)
   some_largest i None l h = tt
   some_largest i (Some m) l h = largest_is i m l h
+
+  -- the largest of all members
+  so_far : (i : ℕ) → i ≤ length (members_at table v) → IsLargestSoFar table v i (largest_member (size_of table) None (take i (members_at table v)))
+  so_far zero l = refl
+  so_far (suc i) l =
+      let ms = members_at table v in
+      subst (λ (k : ℕ). IsLargestSoFar table v k (largest_member (size_of table) None (take k ms))) (next i)
+      (subst (IsLargestSoFar table v (i + 1)) (sym (one_more (size_of table) None (take i ms) (get_or ms i v)) ∙ ap (largest_member (size_of table) None) (sym (take_more ms i v (omega arith))))
+      (largest_more table v i (largest_member (size_of table) None (take i ms)) (get_or ms i v) (so_far i (omega arith)) (slice_get-get_or ms i v (omega arith))))
+    where
+      next : (i : ℕ) → i + 1 ≡ suc i
+      next i = omega arith
+
+  pub largest_told : (o : Option TypeId) → o ≡ largest_member (size_of table) None (members_at table v) → IfSome o (IsLargest table v)
+  largest_told o e =
+      let ms = members_at table v in
+      some_largest (length ms) o (omega arith)
+      (subst (IsLargestSoFar table v (length ms)) (ap (largest_member (size_of table) None) (take_all (length ms) ms (omega arith)) ∙ sym e) (so_far (length ms) (omega arith)))

@@ -1,13 +1,11 @@
 //! The unions at sites, and the pointers at like places of the members of a union that isn't mixed.
 #![tactic(auto)]
 
-ghost use Rattle.std.specs.Prelude.{◌≡◌, [], Some, OnOk, IfOk, IfNone, IfSome};
+ghost use Rattle.std.specs.Prelude.{◌≡◌, Some, OnOk, IfOk};
 ghost use Rattle.cc_base.specs.declared.number.TypeId.{TypeId};
 ghost use Rattle.cc_base.specs.declared.place.Place.{Place};
-ghost use Rattle.c_types.specs.Table.{IsType, IsComplete, IsUnion, members_at};
-ghost use Rattle.c_types.specs.Layouts.{size_of};
-ghost use Rattle.c_types.specs.PointerCounts.{larger};
-ghost use Rattle.c_types.specs.Contents.{HoldsMixed, IsLargest};
+ghost use Rattle.c_types.specs.Table.{IsType, IsUnion};
+ghost use Rattle.c_types.specs.Contents.{HoldsMixed};
 ghost use Rattle.c_types.specs.Sound.{IsWellFormed};
 ghost use Rattle.phys_types.specs.Found.{Gains};
 ghost use Rattle.kind_constraints.specs.Adding.{Adds};

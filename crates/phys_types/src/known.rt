@@ -141,14 +141,7 @@ impl<'a> Known<'a> {
         if is_one_function(self.types, t, u) {
             return Ok(false);
         }
-        begin_alike(
-            self.alloc,
-            self.types,
-            &self.numbers,
-            &self.outlines,
-            t,
-            u,
-        )
+        begin_alike(self.alloc, self.types, &self.numbers, &self.outlines, t, u)
     }
 
     /// Whether a type lies strictly below another: it begins with it and isn't physically equal to it.

@@ -11,14 +11,14 @@ use Rattle.phys_types.proofs.FoundLemmas.{gains_as}
 use Rattle.kind_constraints.specs.Adding.{RelatedBySome}
 use Rattle.kind_constraints.specs.Pieces.{StandInUnion}
 use Rattle.kind_constraints.proofs.Adding.{gains_one_more, gains_all}
-use Rattle.kind_constraints.proofs.LargestMember.{largest_begins, largest_there, member_typed, one_largest}
+use Rattle.kind_constraints.proofs.LargestMember.{largest_begins, largest_there, largest_told, member_typed, one_largest}
 use Rattle.kind_constraints.proofs.unions.add_union.Goals as goal
 
 pub add_places-requires-clause-second : goal.add_places-requires-clause-second
 add_places-requires-clause-second c =
     subst (λ (table : List Entry). c.in-Some.largest.0 < length table) (sym c.requires.table)
     (member_typed c.args.types.now c.requires.formed c.args.v c.requires.union c.requires.typed c.in-Some.largest
-    (largest_there c.args.types.now c.requires.formed c.args.v c.requires.union c.in-Some.largest c.in-Some.ensures.found))
+    (largest_there c.args.types.now c.requires.formed c.args.v c.requires.union c.in-Some.largest (rw c.in-Some.is at (largest_told c.args.types.now c.requires.formed c.args.v c.requires.union c.largest_member.result c.largest_member.ensures))))
 
 pub add_places-requires-clause-near : goal.add_places-requires-clause-near
 add_places-requires-clause-near c =
@@ -26,7 +26,7 @@ add_places-requires-clause-near c =
     (largest_begins c.args.types.now c.requires.formed c.args.v c.requires.union c.field.result.ty c.in-Some.largest
     (λ h. true≢false (sym (c.is_mixed.ensures.1 (subst (λ (table : List Entry). HoldsMixed table c.args.v c.args.v) (sym c.requires.table) h)) ∙ c.if-is_mixed.false))
     (subst (Contains (members_at c.args.types.now c.args.v)) (sym c.field.ensures.ty) (Contains-get_or (members_at c.args.types.now c.args.v) c.members.i c.args.v (omega arith)))
-    c.in-Some.ensures.found)))
+    (rw c.in-Some.is at (largest_told c.args.types.now c.requires.formed c.args.v c.requires.union c.largest_member.result c.largest_member.ensures)))))
 
 pub members-preserved : goal.members-preserved
 members-preserved c =
@@ -41,7 +41,7 @@ returns-after-members c =
     (λ p q. (HoldsMixed c.args.types.now c.args.v c.args.v → ⊥) × StandInUnion c.args.types.now c.args.v p q) c.args.found.now c.members.found
     (λ p q h. (
       (λ k. true≢false (sym (c.is_mixed.ensures.1 (subst (λ (table : List Entry). HoldsMixed table c.args.v c.args.v) (sym c.requires.table) k)) ∙ c.if-is_mixed.false)),
-      (h.0, c.in-Some.largest, h.1, c.in-Some.ensures.found, h.2),
+      (h.0, c.in-Some.largest, h.1, (rw c.in-Some.is at (largest_told c.args.types.now c.requires.formed c.args.v c.requires.union c.largest_member.result c.largest_member.ensures)), h.2),
     ))
-    (λ p q h. let s = h.1 in (s.0, s.2, subst (λ (m : TypeId). StandAlike c.args.types.now s.0 m p q) (one_largest c.args.types.now c.args.v s.1 c.in-Some.largest s.3 c.in-Some.ensures.found) s.4))
+    (λ p q h. let s = h.1 in (s.0, s.2, subst (λ (m : TypeId). StandAlike c.args.types.now s.0 m p q) (one_largest c.args.types.now c.args.v s.1 c.in-Some.largest s.3 (rw c.in-Some.is at (largest_told c.args.types.now c.requires.formed c.args.v c.requires.union c.largest_member.result c.largest_member.ensures))) s.4))
     (gains_all (λ u. StandAlike c.args.types.now u c.in-Some.largest) (members_at c.args.types.now c.args.v) c.members.i c.args.found.now c.members.found (omega arith) c.members.invariant)

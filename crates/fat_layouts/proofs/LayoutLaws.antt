@@ -1,10 +1,8 @@
--- What the cured layout of a type says of the widths of its cells.
+-- The end of a type, and the nodes of the pointers in its layout.
 use Rattle.std.proofs.Common.{◌≡◌, ℕ, ◌+◌, ◌-◌, ◌<◌, ◌≤◌, ◌⊎◌, inl, inr, zero, suc, List, length, slice_get, Some, refl, ap, sym, subst, ◌∙◌, arith, ◌++◌, [], ◌∷◌, true≢false}
-use Rattle.std.specs.Prelude.{slice_index_or}
 use Rattle.std.specs.List.{All}
-use Rattle.std.specs.List.Sorted.{IsNonDecreasingBy}
 use Rattle.std.proofs.lemmas.Option.{slice_get_past}
-use Rattle.std.proofs.lemmas.List.{get_or_past, length-append}
+use Rattle.std.proofs.lemmas.List.{get_or_past}
 use Rattle.cc_base.specs.declared.number.TypeId.{TypeId}
 use Rattle.cc_base.specs.declared.kind.Kind.{Kind}
 use Rattle.c_types.specs.Table.{Table, Entry, IsType, IsComplete, AreNodesOf, shape_at, void_entry, is_complete}
@@ -17,64 +15,12 @@ use Rattle.c_types.specs.Sound.{IsWellFormed}
 use Rattle.c_types.proofs.Cells.{length_cells}
 use Rattle.phys_types.specs.declared.spot.Layout.{Layout}
 use Rattle.phys_types.specs.declared.spot.Spot.{Spot}
-use Rattle.phys_types.specs.Spots.{cells_from}
 use Rattle.phys_types.specs.Shown.{IsLayoutOf}
-use Rattle.phys_types.proofs.Spreading.{length_all}
-use Rattle.phys_types.proofs.Parts.{layout_low}
-use Rattle.fat_layouts.specs.declared.stops.Stop.{Stop}
-use Rattle.fat_layouts.specs.declared.stops.CuredLayout.{CuredLayout}
-use Rattle.fat_layouts.specs.Stops.{HasNode, IsLaid, IsLastPassed, first_stop, all_stops}
-use Rattle.fat_layouts.specs.Standing.{Curing, IsCuredLayout, AreCuredLayouts}
+use Rattle.fat_layouts.specs.Nodes.{HasNode}
 use Rattle.fat_layouts.proofs.NodeCells.{EachHas, cells_have, items_have}
-use Rattle.fat_layouts.proofs.StopLaws.{stops_rise, stops_ordered, width_before}
 
 by_cases : (a b : ℕ) → (a < b) ⊎ (b ≤ a)
 by_cases a b = grind arith
-
-front_at : (us vs : List CuredLayout) (i : ℕ) (d : CuredLayout) → i < length us → slice_index_or (us ++ vs) i d ≡ slice_index_or us i d
-front_at [] vs i d l = absurd (omega (arith, l))
-front_at (u ∷ us) vs zero d l = refl
-front_at (u ∷ us) vs (suc i) d l = front_at us vs i d (omega arith)
-
-last_at : (us : List CuredLayout) (a : CuredLayout) (i : ℕ) (d : CuredLayout) → i ≡ length us → slice_index_or (us ++ a ∷ []) i d ≡ a
-last_at [] a zero d l = refl
-last_at [] a (suc i) d l = absurd (omega arith)
-last_at (u ∷ us) a zero d l = absurd (omega arith)
-last_at (u ∷ us) a (suc i) d l = last_at us a i d (omega arith)
-
-module _ (table : Table) (kinds : List Kind) (t : TypeId) (x : CuredLayout) (h : IsCuredLayout table kinds t x) where
-  pub layout_ordered : IsNonDecreasingBy (λ (s : Stop). s.end) x.stops.items
-  layout_ordered = subst (IsNonDecreasingBy (λ (s : Stop). s.end)) (sym h.stops) (stops_ordered (kind_at kinds) (size_of table) first_stop h.spots x.size h.stand (omega arith))
-
-  pub layout_first : slice_get x.stops.items 0 ≡ Some first_stop
-  layout_first = ap (λ (xs : List Stop). slice_get xs 0) h.stops
-
-  module _ (w : IsWellFormed table) (complete : IsComplete table t) where
-    -- there are as many cells as bytes
-    size_same : x.size ≡ size_of table t
-    size_same = sym (length_all (size_of table) h.spots x.size h.stand) ∙ ap length h.cells ∙ length_cells table w (physically_equal table) t complete
-
-    at_stop : (o : ℕ) (s : Stop) (l : IsLastPassed x.stops.items o s) → slice_get (all_stops (kind_at kinds) h.spots) l.index ≡ Some s
-    at_stop o s l = subst (λ (xs : List Stop). slice_get xs l.index ≡ Some s) h.stops l.there
-
-    pub offset_small : (o : ℕ) (s : Stop) → o ≤ size_of table t → IsLastPassed x.stops.items o s → s.cured + (o - s.end) ≤ 4194304
-    offset_small o s k l =
-        let r = (stops_rise (kind_at kinds) (size_of table) first_stop h.spots x.size l.index s h.stand (omega arith) (at_stop o s l)).1 in
-        let p = l.passed in
-        let m = (w.sized t complete).most in omega arith
-
-    pub offset_is : (o : ℕ) (s : Stop) → o ≤ size_of table t → IsBetweenPointers (cells_of table t) o → IsLastPassed x.stops.items o s
-        → s.cured + (o - s.end) ≡ before (kind_at kinds) (cells_of table t) o
-    offset_is o s k b l =
-        let e = size_same in
-        let r = width_before (kind_at kinds) (size_of table) first_stop h.spots x.size o l.index s h.stand (omega arith) (at_stop o s l) l.passed (omega arith)
-        (λ y q. l.next y (subst (λ (xs : List Stop). slice_get xs (suc l.index) ≡ Some y) (sym h.stops) q))
-        (λ n u j q. b.whole n u j (ap (λ (cs : List Cell). slice_get cs o) (sym h.cells) ∙ ap (slice_get (cells_from 0 h.spots x.size)) (sym f) ∙ q)) in
-        let g = ap (before (kind_at kinds) (cells_from 0 h.spots x.size)) f in
-        let z = ap (λ (cs : List Cell). before (kind_at kinds) cs o) h.cells in omega arith
-      where
-        f : o - 0 ≡ o
-        f = omega arith
 
 -- no pointer goes on behind the last byte
 pub end_is_whole : (table : Table) → IsWellFormed table → (t : TypeId) → IsComplete table t → IsBetweenPointers (cells_of table t) (size_of table t)
@@ -86,10 +32,6 @@ end_is_whole table w t complete =
 pub all_before : (table : Table) → IsWellFormed table → (kinds : List Kind) (t : TypeId) → IsComplete table t
     → before (kind_at kinds) (cells_of table t) (size_of table t) ≡ cured_size table (kind_at kinds) t
 all_before table w kinds t complete = ap (before (kind_at kinds) (cells_of table t)) (sym (length_cells table w (physically_equal table) t complete))
-
--- what the building of stops asks of a type's layout
-pub layout_laid : (table : Table) → IsWellFormed table → (t : TypeId) (x : Layout) → IsLayoutOf table (physically_equal table) t x → IsLaid x.spots.items
-layout_laid table w t x h = record { size = size_of table; end = x.size; stand = h.spots; small = (layout_low table w (physically_equal table) t x h).1 }
 
 pub layout_nodes : (table : Table) → IsWellFormed table → (n : ℕ) → All (λ (e : Entry). AreNodesOf n e.shape) table → (t : TypeId) (x : Layout)
     → IsLayoutOf table (physically_equal table) t x → All (λ (s : Spot). HasNode n s.item) x.spots.items
@@ -103,10 +45,6 @@ layout_nodes table w n nodes t x h =
         of (inl l) = nodes u.0 void_entry l
         of (inr l) = subst (λ (e : Entry). AreNodesOf n e.shape) (sym (get_or_past table u.0 void_entry l)) tt
 
--- ---- the layouts that are kept
-pub kept_formed : (p q : Curing) (xs : List CuredLayout) → p ≡ q → AreCuredLayouts p.table p.kinds xs → IsWellFormed q.table
-kept_formed p q xs e h = subst (λ (r : Curing). IsWellFormed r.table) e h.formed
-
 pub complete_typed : (table : Table) (t : TypeId) → IsComplete table t → IsType table t
 complete_typed table t h = of (by_cases t.0 (length table))
   where
@@ -115,39 +53,3 @@ complete_typed table t h = of (by_cases t.0 (length table))
     of (inr l) =
         let e = get_or_past table t.0 void_entry l in
         absurd (true≢false (sym h ∙ ap is_complete e))
-
-pub the_layout : (p q : Curing) (xs : List CuredLayout) → p ≡ q → AreCuredLayouts p.table p.kinds xs → (t : TypeId) (d : CuredLayout) → IsComplete q.table t
-    → (x : CuredLayout) → x ≡ slice_index_or xs t.0 d → IsCuredLayout q.table q.kinds t x
-the_layout p q xs e h t d c x f =
-    let k = subst (λ (r : Curing). AreCuredLayouts r.table r.kinds xs) e h in
-    subst (IsCuredLayout q.table q.kinds t) (sym f) (k.each t d (complete_typed q.table t c))
-
--- ---- one layout after another
-pub record AreSoFar (table : Table) (kinds : List Kind) (xs : List CuredLayout) (n : ℕ) : Type 0 where
-  pub count : length xs ≡ n
-  pub each : (t : TypeId) (d : CuredLayout) → t.0 < n → IsCuredLayout table kinds t (slice_index_or xs t.0 d)
-
-module _ (table : Table) (kinds : List Kind) where
-  pub none_so_far : AreSoFar table kinds [] 0
-  none_so_far = record { count = refl; each = λ t d l. absurd (omega (arith, l)) }
-
-  pub one_more : (xs ys : List CuredLayout) (n : ℕ) (t : TypeId) (x : CuredLayout) → t.0 ≡ n → AreSoFar table kinds xs n → IsCuredLayout table kinds t x → ys ≡ xs ++ x ∷ []
-      → AreSoFar table kinds ys (n + 1)
-  one_more xs ys n t x e h k f = subst (λ (zs : List CuredLayout). AreSoFar table kinds zs (n + 1)) (sym f) (record {
-    count = (let l = length-append xs (x ∷ []) in let c = h.count in omega arith);
-    each = λ u d l. of u d (less u.0 n (omega (arith, l)));
-  })
-    where
-      less : (a b : ℕ) → a < b + 1 → (a < b) ⊎ (a ≡ b)
-      less a b l = grind arith
-
-      of : (u : TypeId) (d : CuredLayout) → (u.0 < n) ⊎ (u.0 ≡ n) → IsCuredLayout table kinds u (slice_index_or (xs ++ x ∷ []) u.0 d)
-      of u d (inl l) = subst (IsCuredLayout table kinds u) (sym (front_at xs (x ∷ []) u.0 d (let c = h.count in omega arith))) (h.each u d l)
-      of u d (inr q) =
-          let c = h.count in
-          let same : t ≡ u = ap (λ (i : ℕ). record { 0 = i }) (e ∙ sym q) in
-          subst (λ (v : TypeId). IsCuredLayout table kinds v (slice_index_or (xs ++ x ∷ []) u.0 d)) same
-          (subst (IsCuredLayout table kinds t) (sym (last_at xs x u.0 d (omega arith))) k)
-
-  pub all_so_far : (xs : List CuredLayout) (n : ℕ) → IsWellFormed table → length table ≡ n → AreSoFar table kinds xs n → AreCuredLayouts table kinds xs
-  all_so_far xs n w e h = record { formed = w; count = h.count ∙ sym e; each = λ t d l. h.each t d (omega arith) }

@@ -1,3 +1,2 @@
 pub mod NodeCells
-mod StopLaws
 pub mod LayoutLaws

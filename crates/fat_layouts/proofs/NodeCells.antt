@@ -17,7 +17,7 @@ use Rattle.phys_types.specs.declared.spot.Spot.{Spot}
 use Rattle.phys_types.specs.declared.spot.Item.{Item}
 use Rattle.phys_types.specs.declared.spot.Item.TheVariants.{Pointer, Mixed, Incomplete}
 use Rattle.phys_types.specs.Spots.{item_cells, item_size, cells_from}
-use Rattle.fat_layouts.specs.Stops.{HasNode}
+use Rattle.fat_layouts.specs.Nodes.{HasNode}
 
 abbrev pub CellHas : ℕ → Cell → Type 0
 CellHas count (pointer node to i) = node.0 < count

@@ -1,6 +1,14 @@
 //! An offset in a type, followed down the parts in which it lies.
 #![tactic(auto)]
 
+ghost use Rattle.std.specs.Prelude.{◌≡◌, ◌<◌, ◌≤◌, ℕ, List, length};
+ghost use Rattle.cc_base.specs.declared.kind.Kind.{Kind};
+ghost use Rattle.cc_base.specs.declared.number.TypeId.{TypeId};
+ghost use Rattle.c_types.specs.Table.{IsRanked, IsComplete, members_at};
+ghost use Rattle.c_types.specs.Layouts.{offset_of};
+ghost use Rattle.phys_types.specs.Shown.{IsStruct};
+ghost use Rattle.fat_layouts.specs.Standing.{AreCuredTypes, IsPoint, IsStep};
+
 use crate::parts::{CuredType, cured};
 use c_types::{TypeShape, Types};
 use cc_base::TypeId;
@@ -30,7 +38,13 @@ fn into(types: &Types, all: &[CuredType], part: Point) -> Step {
 }
 
 /// The number of the last member of a struct that doesn't begin behind an offset.
-fn member_at(types: &Types, t: TypeId, offset: u64) -> usize {
+fn member_at(types: &Types, t: TypeId, offset: u64) -> usize
+    requires complete { IsComplete types.now t }
+    requires shape { IsStruct types.now t }
+    ensures there { result < length (members_at types.now t) }
+    ensures passed { offset_of types.now t result ≤ offset }
+    ensures next { (i : ℕ) → result < i → i < length (members_at types.now t) → offset < offset_of types.now t i }
+{
     let mut low = 0;
     let mut high = types.fields(t);
     'halves: while low + 1 < high {
@@ -92,7 +106,11 @@ fn into_part(types: &Types, all: &[CuredType], p: Point) -> Step {
 }
 
 /// One step down.
-pub(crate) fn step(types: &Types, all: &[CuredType], p: Point) -> Step {
+pub(crate) fn step(types: &Types, all: &[CuredType], p: Point) -> Step
+    requires { (kinds : List Kind) × AreCuredTypes types.now kinds all.now × IsPoint types.now kinds p }
+    ensures { (kinds : List Kind) (rank : TypeId → ℕ) → IsRanked types.now rank → AreCuredTypes types.now kinds all.now
+        → IsPoint types.now kinds p → IsStep types.now kinds rank p result }
+{
     let own = cured(all, p.ty);
     if own.even {
         return Step::There(p.passed + p.offset);

@@ -10,7 +10,6 @@ ghost use Rattle.c_types.specs.Equality.{cells_of};
 ghost use Rattle.cc_base.specs.Kinds.{kind_at};
 ghost use Rattle.c_types.specs.Widths.{before, cured_size};
 ghost use Rattle.c_types.specs.Sound.{IsWellFormed};
-ghost use Rattle.fat_layouts.specs.Standing.{IsCuredLayout};
 
 use crate::descending::{Point, Step, step};
 use crate::parts::{CuredType, cured, cured_types};
@@ -29,13 +28,13 @@ pub struct Layouts<'a> {
 }
 
 impl<'a> Model for Layouts<'a> {
-    ghost use Rattle.fat_layouts.specs.Standing.{Curing, AreCuredLayouts};
+    ghost use Rattle.fat_layouts.specs.Standing.{Curing, AreCuredTypes};
 
     ghost Value = { Curing };
 
     ghost view = { λ s. record { table = s.types.now; kinds = s.kinds.now } };
 
-    ghost invariant = { λ s. AreCuredLayouts s.types.now s.kinds.now s.all.items };
+    ghost invariant = { λ s. AreCuredTypes s.types.now s.kinds.now s.all.items };
 }
 
 impl<'a> Layouts<'a> {

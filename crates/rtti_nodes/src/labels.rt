@@ -6,7 +6,7 @@ ghost use Rattle.std.specs.List.{All};
 ghost use Rattle.cc_base.specs.Kinds.{kind_at};
 ghost use Rattle.c_types.specs.Table.{IsType, AreNodesOf};
 ghost use Rattle.c_types.specs.Sound.{IsWellFormed};
-ghost use Rattle.fat_layouts.specs.Stops.{HasNode};
+ghost use Rattle.fat_layouts.specs.Nodes.{HasNode};
 ghost use Rattle.phys_types.specs.Numbers.{number_in};
 ghost use Rattle.phys_types.specs.Signatures.{mixed, mixed_all};
 ghost use Rattle.phys_types.specs.Standing.{pointer_of_item};

@@ -12,6 +12,8 @@ pub mod Unions
 pub mod WrittenOut
 pub mod OutlinesAgree
 pub mod WritingSteps
+pub mod WritingWeights
+pub mod OutlineLemmas
 pub mod Makeups
 pub mod RoundLemmas
 pub mod Settled

@@ -1,4 +1,4 @@
-use Rattle.std.specs.Prelude.{◌≡◌, ℕ, suc, ◌+◌, ◌*◌, ◌<◌, ◌≤◌, List, [], ◌∷◌, ◌++◌, length, map, drop, slice_index_or, sum_by, Some}
+use Rattle.std.specs.Prelude.{◌≡◌, ℕ, suc, ◌+◌, ◌*◌, ◌<◌, ◌≤◌, List, [], ◌∷◌, ◌++◌, length, map, drop, slice_index_or, Some}
 use Rattle.std.specs.List.{All, Contains}
 use Rattle.cc_base.specs.declared.number.TypeId.{TypeId}
 use Rattle.c_types.specs.declared.shape.TypeShape.{TypeShape}
@@ -64,15 +64,26 @@ pub record Writes (table : Table) (E : Relation) (seen : List TypeId) (part spot
 
 -- How much is left to do: a number for each type that is larger than those of its parts together.
 
+abbrev pub member_weights : (TypeId → ℕ) → List TypeId → ℕ
+member_weights of_part [] = 1
+member_weights of_part (m ∷ ms) = of_part m + 3 + member_weights of_part ms
+
 abbrev pub weight_of_shape : (TypeId → ℕ) → TypeShape → List TypeId → ℕ
 weight_of_shape of_part (Array element n) ms = 1 + n * (of_part element + 1)
-weight_of_shape of_part (Struct tag) ms = 1 + sum_by (λ m. of_part m + 3) ms
-weight_of_shape of_part (Union tag) ms = 1 + sum_by (λ m. of_part m + 3) ms
+weight_of_shape of_part (Struct tag) ms = member_weights of_part ms
+weight_of_shape of_part (Union tag) ms = member_weights of_part ms
 weight_of_shape of_part shape ms = 0
 
+abbrev pub weight_step : Table → (TypeId → ℕ) → TypeId → ℕ
+weight_step table of_part t = weight_of_shape of_part (shape_at table t) (members_at table t)
+
 unfoldable pub weight : Table → TypeId → ℕ
-weight table t = descend (λ of_part u. weight_of_shape of_part (shape_at table u) (members_at table u)) 0 (suc (length table)) t
+weight table t = descend (weight_step table) 0 (suc (length table)) t
 
 abbrev pub rest_weight : Table → Rest → ℕ
 rest_weight table (Copies t at count) = 1 + count * (weight table t + 1)
-rest_weight table (Members t at first) = 1 + sum_by (λ m. weight table m + 3) (drop first (members_at table t))
+rest_weight table (Members t at first) = member_weights (weight table) (drop first (members_at table t))
+
+abbrev pub all_weights : Table → List Rest → ℕ
+all_weights table [] = 0
+all_weights table (r ∷ rs) = rest_weight table r + all_weights table rs

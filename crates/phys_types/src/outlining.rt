@@ -206,7 +206,7 @@ fn add_outline(
     ensures low { OnOk result (AreShortLow outlines.new) }
     ensures added { (seen : List TypeId)
         → AreOutlined types.now (same_number (number_in numbers.now)) seen outlines.old
-        → IsPartsSeen types.now seen t → (Contains seen t → ⊥)
+        → IsPartsSeen types.now seen t
         → OnOk result (AreOutlined types.now (same_number (number_in numbers.now)) (seen ++ (t ∷ [])) outlines.new) }
 {
     outlines[t.0 as usize] = outline_of(alloc, types, numbers, outlines, t)?;

@@ -1,7 +1,7 @@
 //! The spots of a type, written out: those of its parts, one after another.
 #![tactic(auto)]
 
-ghost use Rattle.std.specs.Prelude.{◌≡◌, ◌+◌, ◌≤◌, ◌++◌, ◌∷◌, [], length, take, List, map, true, false, IfOk, OnOk};
+ghost use Rattle.std.specs.Prelude.{◌≡◌, ◌+◌, ◌<◌, ◌≤◌, ◌++◌, ◌∷◌, [], length, take, List, map, true, false, IfOk, OnOk};
 ghost use Rattle.std.specs.List.{All, Contains};
 ghost use Rattle.cc_base.specs.declared.number.TypeId.{TypeId};
 ghost use Rattle.c_types.specs.Table.{IsType, IsComplete, IsUnion, is_complete, entry_at};
@@ -13,7 +13,7 @@ ghost use Rattle.phys_types.specs.Outlines.{IsOutline, AreOutlined};
 ghost use Rattle.phys_types.specs.declared.spot.Spot.{Spot};
 ghost use Rattle.phys_types.specs.declared.writing.Rest.TheVariants.{Copies, Members};
 ghost use Rattle.phys_types.specs.Written.{spots_at};
-ghost use Rattle.phys_types.specs.Writing.{IsRest, AreShortLow, CanWrite, IsPartsSeen, AreSeen, Writes, rest_spots, all_rest};
+ghost use Rattle.phys_types.specs.Writing.{IsRest, AreShortLow, CanWrite, IsPartsSeen, AreSeen, Writes, rest_spots, all_rest, weight, rest_weight, all_weights};
 
 use crate::copying::push_shifted;
 use crate::members::largest_member;
@@ -56,6 +56,8 @@ fn write_union(
     requires within { at + size_of types.now ty ≤ 1048576 }
     requires right { All (IsRest types.now) rest.old.items }
     ensures right { OnOk result (All (IsRest types.now) rest.new.items) }
+    ensures lighter { OnOk result
+        (all_weights types.now rest.new.items ≤ all_weights types.now rest.old.items + weight types.now ty) }
     ensures written { (E : Relation) (seen : List TypeId) → IsOutline types.now E ty own.now
         → own.now.holds ≡ true → IsPartsSeen types.now seen ty → AreSeen seen rest.old.items
         → OnOk result (Writes types.now E seen (map (shifted at) (spots_at types.now E ty))
@@ -88,6 +90,8 @@ fn write_parts(
     requires within { at + size_of types.now ty ≤ 1048576 }
     requires right { All (IsRest types.now) rest.old.items }
     ensures right { OnOk result (All (IsRest types.now) rest.new.items) }
+    ensures lighter { OnOk result
+        (all_weights types.now rest.new.items ≤ all_weights types.now rest.old.items + weight types.now ty) }
     ensures written { (E : Relation) (seen : List TypeId) → IsOutline types.now E ty own.now
         → own.now.holds ≡ true → IsPartsSeen types.now seen ty → AreSeen seen rest.old.items
         → OnOk result (Writes types.now E seen (map (shifted at) (spots_at types.now E ty))
@@ -125,6 +129,8 @@ fn write_type(
     requires complete { IsComplete types.now ty }
     requires within { at + size_of types.now ty ≤ 1048576 }
     ensures ready { OnOk result (CanWrite types.now outlines.now rest.new.items) }
+    ensures lighter { OnOk result
+        (all_weights types.now rest.new.items ≤ all_weights types.now rest.old.items + weight types.now ty) }
     ensures written { (E : Relation) (seen : List TypeId) → AreOutlined types.now E seen outlines.now
         → Contains seen ty → AreSeen seen rest.old.items
         → OnOk result (Writes types.now E seen (map (shifted at) (spots_at types.now E ty))
@@ -153,6 +159,8 @@ fn write_copies(
     requires ready { CanWrite types.now outlines.now rest.old.items }
     requires right { IsRest types.now (Copies ty at count) }
     ensures ready { OnOk result (CanWrite types.now outlines.now rest.new.items) }
+    ensures lighter { OnOk result
+        (all_weights types.now rest.new.items < all_weights types.now rest.old.items + rest_weight types.now (Copies ty at count)) }
     ensures written { (E : Relation) (seen : List TypeId) → AreOutlined types.now E seen outlines.now
         → Contains seen ty → AreSeen seen rest.old.items
         → OnOk result (Writes types.now E seen (copies count (size_of types.now ty) at (spots_at types.now E ty))
@@ -180,6 +188,8 @@ fn put_off_members(
     requires own { IsRest types.now (Members ty at first) }
     requires right { All (IsRest types.now) rest.old.items }
     ensures right { OnOk result (All (IsRest types.now) rest.new.items) }
+    ensures lighter { OnOk result
+        (all_weights types.now rest.new.items < all_weights types.now rest.old.items + rest_weight types.now (Members ty at first)) }
     ensures written { (E : Relation) (seen : List TypeId) (spots : List Spot) → IsPartsSeen types.now seen ty
         → Contains seen ty → AreSeen seen rest.old.items
         → OnOk result (Writes types.now E seen (rest_spots types.now (spots_at types.now E) (Members ty at first))
@@ -212,6 +222,8 @@ fn write_next(
     requires ready { CanWrite types.now outlines.now rest.old.items }
     requires right { IsRest types.now next }
     ensures ready { OnOk result (CanWrite types.now outlines.now rest.new.items) }
+    ensures lighter { OnOk result
+        (all_weights types.now rest.new.items < all_weights types.now rest.old.items + rest_weight types.now (next)) }
     ensures written { (E : Relation) (seen : List TypeId) → AreOutlined types.now E seen outlines.now
         → AreSeen seen (next ∷ []) → AreSeen seen rest.old.items
         → OnOk result (Writes types.now E seen (rest_spots types.now (spots_at types.now E) next)

@@ -158,9 +158,12 @@ fn are_stable(
     Ok(true)
 }
 
-/// How many of the first spots of a type numbers are made finer by: few in the first round, and then all.
+/// In how many rounds few spots of a type are looked at.
+const SHORT_ROUNDS: usize = 4;
+
+/// How many of the first spots of a type numbers are made finer by: few in the first rounds, and then all.
 fn limit_of(round: usize) -> usize {
-    if round == 0 { SHORT } else { MOST_SPOTS }
+    if round < SHORT_ROUNDS { SHORT } else { MOST_SPOTS }
 }
 
 /// Numbers that are the same exactly for physically equal types, and the outlines of the types under them.

@@ -166,6 +166,7 @@ module _ (C : TypeId → List Cell) (size : TypeId → ℕ) where
 
   largest_fold : (found : TypeId) (ms : List TypeId) → ((x : TypeId) → Contains (found ∷ ms) x → length (C x) ≡ size x)
       → C (largest_one size found ms).one ≡ fold longer (C found) (map C ms)
+  unfolding largest_one
   largest_fold found [] h = refl
   largest_fold found (m ∷ ms) h =
       largest_fold (larger size (Some found) m) ms (λ x c. h x (larger_there size found m ms x c))

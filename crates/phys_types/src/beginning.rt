@@ -74,7 +74,8 @@ pub(crate) fn begin_alike(
         → Contains seen t → Contains seen u → IfOk result (λ begin. begin ≡ begins (same_number (number_in numbers.now))
         (cells_at types.now (same_number (number_in numbers.now)) t) (cells_at types.now (same_number (number_in numbers.now)) u)) }
 {
-    if !may_begin(alloc, types, numbers, outlines, t, u)? {
+    let may = may_begin(alloc, types, numbers, outlines, t, u)?;
+    if !may {
         return Ok(false);
     }
     let x = lend(alloc, types, outlines, t)?;

@@ -58,7 +58,8 @@ fn first_alike(
         → IfOk result (λ place. place ≡ first_place (λ u. made_alike types.now (same_number (number_in numbers.now)) u t) so_far.now) }
 {
     for (i, other) in so_far.iter().enumerate() {
-        if look_alike(alloc, types, numbers, outlines, *other, t)? {
+        let alike = look_alike(alloc, types, numbers, outlines, *other, t)?;
+        if alike {
             return Ok(i);
         }
     }
@@ -151,7 +152,8 @@ fn are_stable(
     let mut firsts = IndexMap::new(alloc);
     'places: for place in 0..order.len() {
         let first = first_with(&mut firsts, number_of(numbers, order[place]), place)?;
-        if !look_alike_at(alloc, types, order, outlines, numbers, first, place)? {
+        let alike = look_alike_at(alloc, types, order, outlines, numbers, first, place)?;
+        if !alike {
             return Ok(false);
         }
     }
@@ -163,7 +165,11 @@ const SHORT_ROUNDS: usize = 4;
 
 /// How many of the first spots of a type numbers are made finer by: few in the first rounds, and then all.
 fn limit_of(round: usize) -> usize {
-    if round < SHORT_ROUNDS { SHORT } else { MOST_SPOTS }
+    if round < SHORT_ROUNDS {
+        SHORT
+    } else {
+        MOST_SPOTS
+    }
 }
 
 /// Numbers that are the same exactly for physically equal types, and the outlines of the types under them.
@@ -181,7 +187,8 @@ pub(crate) fn settle(alloc: Global, types: &Types, order: &[TypeId]) -> Result<R
     let mut numbers = zeros(alloc, count)?;
     'rounds: for round in 0..count {
         let outlines = outlined(alloc, types, order, &numbers)?;
-        if are_stable(alloc, types, order, &outlines, &numbers)? {
+        let stable = are_stable(alloc, types, order, &outlines, &numbers)?;
+        if stable {
             return Ok(Round { numbers, outlines });
         }
         numbers = refine(alloc, types, &outlines, &numbers, limit_of(round))?;

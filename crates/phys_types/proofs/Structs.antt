@@ -123,14 +123,19 @@ module _ (table : Table) (w : IsWellFormed table) where
       ap (λ s. offset_of_shape s (map (layout_of table) (take i (members_at table t))) (layout_of table (get_or (members_at table t) i t))) e
       ∙ ap (λ n. rounded n (align_of table (get_or (members_at table t) i t))) (sym (end_is E t tag i e))
 
-  pub offset_low : (t : TypeId) (tag i : ℕ) → shape_at table t ≡ Struct tag → i < length (members_at table t) → offset_of table t i ≤ size_of table t
-  offset_low t tag i e l =
+  -- a member lies within its struct
+  pub part_within : (t : TypeId) (tag i : ℕ) → shape_at table t ≡ Struct tag → i < length (members_at table t)
+      → offset_of table t i + size_of table (get_or (members_at table t) i t) ≤ size_of table t
+  part_within t tag i e l =
       let o = ap (λ s. offset_of_shape s (map (layout_of table) (take i (members_at table t))) (layout_of table (get_or (members_at table t) i t))) e in
       let m = fold_map_more (λ end (m : Measure). rounded end m.align + m.size) 0 (layout_of table) (members_at table t) i t l in
       let k = end_of_part (layout_of table) (members_at table t) (i + 1) in
       let z = struct_size t tag e in
       let r = rounded_up (members_end (map (layout_of table) (members_at table t))) (greatest_align (map (layout_of table) (members_at table t))) in
       omega arith
+
+  pub offset_low : (t : TypeId) (tag i : ℕ) → shape_at table t ≡ Struct tag → i < length (members_at table t) → offset_of table t i ≤ size_of table t
+  offset_low t tag i e l = let h = part_within t tag i e l in omega arith
 
   pub struct_shown : (E : Relation) (t : TypeId) (tag i : ℕ) (spots : List Spot) → shape_at table t ≡ Struct tag → is_complete_entry (shape_at table t) (members_at table t) ≡ true
       → length (members_at table t) ≤ i → StructSoFar table E (members_at table t) i spots

@@ -1,27 +1,31 @@
 -- What each step of writing out a type does to its spots and to what is put off.
-use Rattle.std.proofs.Common.{◌≡◌, ℕ, zero, suc, ◌+◌, ◌-◌, ◌*◌, ◌<◌, ◌≤◌, Bool, true, false, ◌||◌, List, [], ◌∷◌, ◌++◌, length, get_or, map, drop, None, refl, ap, sym, subst, ◌∙◌, true≢false, append_assoc, arith}
-use Rattle.std.specs.List.{Contains, list_any}
+use Rattle.std.proofs.Common.{◌≡◌, ℕ, zero, suc, ◌+◌, ◌-◌, ◌*◌, ◌<◌, ◌≤◌, max, Bool, true, false, ◌||◌, List, [], ◌∷◌, ◌++◌, length, get_or, map, drop, None, refl, ap, sym, subst, ◌∙◌, Some, true≢false, append_assoc, arith}
+use Rattle.std.specs.List.{Contains, fold, list_any}
 use Rattle.std.proofs.lemmas.List.{append-nil, map-append}
 use Rattle.std.proofs.Math.Seq.{drop-cons}
-use Rattle.std.proofs.lemmas.List.Elements.{All-contains}
+use Rattle.std.proofs.lemmas.List.Elements.{All-contains, All-push, Contains-get_or}
+use Rattle.cc_base.specs.declared.number.NodeId.{NodeId}
 use Rattle.cc_base.specs.declared.number.TypeId.{TypeId}
 use Rattle.c_types.specs.declared.shape.TypeShape.{TypeShape}
 use Rattle.c_types.specs.declared.shape.TypeShape.TheVariants.{Void, Integer, Pointer, Array, Function, Struct, Union}
 use Rattle.c_types.specs.Table.{Table, IsComplete, shape_at, members_at, parts_at, parts_of_shape, is_complete_entry}
-use Rattle.c_types.specs.Layouts.{size_of, offset_of}
+use Rattle.c_types.specs.declared.layout.Layout.{Layout as Measure}
+use Rattle.c_types.specs.Layouts.{size_of, offset_of, layout_of, layout_of_shape, greatest_size, greatest_align}
 use Rattle.c_types.specs.Cells.{Relation, holds_pointer, holds_in_shape}
 use Rattle.c_types.specs.PointerCounts.{largest_member}
-use Rattle.c_types.specs.Sound.{IsWellFormed}
+use Rattle.c_types.specs.Sound.{IsProper, IsWellFormed}
 use Rattle.c_types.proofs.Lists.{contains_head, contains_tail}
+use Rattle.c_types.proofs.Descent.{layout_is}
+use Rattle.c_types.proofs.Ends.{rounded_up}
 use Rattle.phys_types.specs.declared.spot.Item.{Item}
-use Rattle.phys_types.specs.declared.spot.Item.TheVariants.{Pointer as pointer_item}
+use Rattle.phys_types.specs.declared.spot.Item.TheVariants.{Pointer as pointer_item, Mixed}
 use Rattle.phys_types.specs.declared.spot.Spot.{Spot}
 use Rattle.phys_types.specs.declared.writing.Rest.{Rest}
 use Rattle.phys_types.specs.declared.writing.Rest.TheVariants.{Copies, Members}
 use Rattle.phys_types.specs.Spots.{shifted, copies}
 use Rattle.phys_types.specs.Written.{one_spot, member_spots, of_some_part, is_mixed_at, union_spots_of, spots_of_shape, spots_at}
-use Rattle.phys_types.specs.Writing.{rest_spots, all_rest}
-use Rattle.phys_types.proofs.Structs.{holds_is}
+use Rattle.phys_types.specs.Writing.{rest_spots, all_rest, rest_type, IsRest, AreSeen, Writes}
+use Rattle.phys_types.proofs.Structs.{holds_is, part_within}
 use Rattle.phys_types.proofs.WrittenOut.{spots_are}
 
 -- ---- lists
@@ -177,3 +181,120 @@ module _ (table : Table) (w : IsWellFormed table) (E : Relation) where
 
   pub none_written : (t : TypeId) → IsComplete table t → holds_pointer table t ≡ false → spots_at table E t ≡ []
   none_written t c h = none_below (suc (w.order.0 t)) t (omega arith) c h
+
+-- ---- the steps
+
+module _ (table : Table) (w : IsWellFormed table) (E : Relation) (seen : List TypeId) (t : TypeId) (at : ℕ) (spots more : List Spot) (rest left : List Rest) (s : AreSeen seen rest) where
+  abbrev T : TypeId → List Spot
+  T u = spots_at table E u
+
+  abbrev WritesIt : Type 0
+  WritesIt = Writes table E seen (map (shifted at) (spots_at table E t)) spots rest more left
+
+  -- an item is written
+  item_writes : (item : Item) → spots_at table E t ≡ one_spot item → more ≡ spots ++ record { start = at; item = item } ∷ [] → left ≡ rest → WritesIt
+  item_writes item e m l = record {
+    same =
+        (λ i. m i ++ all_rest table T (l i)) ∙ item_written item at spots (all_rest table T rest)
+        ∙ ap (λ (ss : List Spot). spots ++ (map (shifted at) ss ++ all_rest table T rest)) (sym e);
+    all_seen = subst (AreSeen seen) (sym l) s;
+  }
+
+  -- a part is put off
+  part_writes : (r : Rest) → rest_spots table T r ≡ map (shifted at) (spots_at table E t) → Contains seen (rest_type r) → more ≡ spots → left ≡ rest ++ r ∷ [] → WritesIt
+  part_writes r e c m l = record {
+    same = (λ i. m i ++ all_rest table T (l i)) ∙ put_off_part table T spots (map (shifted at) (spots_at table E t)) rest r e;
+    all_seen = subst (AreSeen seen) (sym l) (All-push (λ (x : Rest). Contains seen (rest_type x)) rest r s c);
+  }
+
+  -- nothing is to be written
+  pub nothing_writes : spots_at table E t ≡ [] → more ≡ spots → left ≡ rest → WritesIt
+  nothing_writes e m l = record {
+    same = (λ i. m i ++ all_rest table T (l i)) ∙ ap (λ (ss : List Spot). spots ++ (map (shifted at) ss ++ all_rest table T rest)) (sym e);
+    all_seen = subst (AreSeen seen) (sym l) s;
+  }
+
+  -- the spots that are kept are written
+  pub kept_writes : (ss : List Spot) → ss ≡ spots_at table E t → more ≡ spots ++ map (shifted at) ss → left ≡ rest → WritesIt
+  kept_writes ss e m l = record {
+    same =
+        (λ i. m i ++ all_rest table T (l i)) ∙ append_assoc spots (map (shifted at) ss) (all_rest table T rest)
+        ∙ ap (λ (xs : List Spot). spots ++ (map (shifted at) xs ++ all_rest table T rest)) e;
+    all_seen = subst (AreSeen seen) (sym l) s;
+  }
+
+  pub pointer_writes : (node : NodeId) (to : TypeId) → shape_at table t ≡ Pointer node to → more ≡ spots ++ record { start = at; item = pointer_item node to } ∷ [] → left ≡ rest → WritesIt
+  pointer_writes node to e m l = item_writes (pointer_item node to) (pointer_is table w E t node to e) m l
+
+  pub array_writes : (element : TypeId) (n : ℕ) → shape_at table t ≡ Array element n → Contains seen element → more ≡ spots → left ≡ rest ++ Copies element at n ∷ [] → WritesIt
+  array_writes element n e c m l =
+      part_writes (Copies element at n)
+      (sym (ap (map (shifted at)) (array_is table w E t element n e) ∙ copies_shifted n (size_of table element) 0 at (T element)
+      ∙ ap (λ (k : ℕ). copies n (size_of table element) k (T element)) (shift_zero at))) c m l
+
+  pub struct_writes : (tag : ℕ) → shape_at table t ≡ Struct tag → IsComplete table t → Contains seen t → more ≡ spots → left ≡ rest ++ Members t at 0 ∷ [] → WritesIt
+  struct_writes tag e f c m l = part_writes (Members t at 0) (ap (map (shifted at)) (sym (struct_written table w E t tag e f))) c m l
+
+  pub mixed_writes : (tag : ℕ) → shape_at table t ≡ Union tag → IsComplete table t → holds_pointer table t ≡ true → is_mixed_at table E t ≡ true
+      → more ≡ spots ++ record { start = at; item = Mixed t (size_of table t) } ∷ [] → left ≡ rest → WritesIt
+  mixed_writes tag e f h x m l =
+      item_writes (Mixed t (size_of table t))
+      (union_written table w E t tag e f h ∙ ap (λ b. union_spots_of true b t (size_of table t) (of_some_part T (largest_member (size_of table) None (members_at table t)))) x) m l
+
+  pub largest_writes : (tag : ℕ) (u : TypeId) → shape_at table t ≡ Union tag → IsComplete table t → holds_pointer table t ≡ true → is_mixed_at table E t ≡ false
+      → largest_member (size_of table) None (members_at table t) ≡ Some u → Contains seen u → more ≡ spots → left ≡ rest ++ Copies u at 1 ∷ [] → WritesIt
+  largest_writes tag u e f h x o c m l =
+      part_writes (Copies u at 1)
+      (one_copy (size_of table u) at (T u)
+      ∙ ap (map (shifted at)) (sym (union_written table w E t tag e f h
+      ∙ ap (λ b. union_spots_of true b t (size_of table t) (of_some_part T (largest_member (size_of table) None (members_at table t)))) x ∙ ap (of_some_part T) o))) c m l
+
+-- ---- what is put off lies within the largest size of a type
+
+module _ (table : Table) (w : IsWellFormed table) (t : TypeId) (at : ℕ) where
+  part_full : (s : TypeShape) → shape_at table t ≡ s → (m : TypeId) → Contains (parts_of_shape s (members_at table t)) m → IsComplete table m
+  part_full s e m c =
+      let P : TypeShape → Type 0 = λ s. (m : TypeId) → Contains (parts_of_shape s (members_at table t)) m → IsComplete table m in
+      subst P e (λ x d. All-contains (IsComplete table) (parts_at table t) x (w.each t).parts d) m c
+
+  size_by : (s : TypeShape) → shape_at table t ≡ s → size_of table t ≡ (layout_of_shape (layout_of table) s (members_at table t)).size
+  size_by s e = ap (λ (l : Measure). l.size) (layout_is table w.order.0 w.order.1 t ∙ ap (λ x. layout_of_shape (layout_of table) x (members_at table t)) e)
+
+  pub array_rest : (element : TypeId) (n : ℕ) → shape_at table t ≡ Array element n → at + size_of table t ≤ 1048576 → IsRest table (Copies element at n)
+  array_rest element n e b = (
+    part_full (Array element n) e element (contains_head element []),
+    subst IsProper e (w.each t).proper,
+    let z = size_by (Array element n) e in omega arith,
+  )
+
+  greatest : (m : TypeId) (ms : List TypeId) (a : ℕ) → a ≤ fold (λ (s : ℕ) (l : Measure). max s l.size) a (map (layout_of table) ms)
+      × (Contains ms m → size_of table m ≤ fold (λ (s : ℕ) (l : Measure). max s l.size) a (map (layout_of table) ms))
+  greatest m [] a = (omega arith, λ c. absurd (omega (arith, c.1)))
+  greatest m (x ∷ ms) a =
+      let r = greatest m ms (max a (size_of table x)) in (
+        (let h = r.0 in omega arith),
+        λ c. by c r,
+      )
+    where
+      by : Contains (x ∷ ms) m
+          → ((max a (size_of table x) ≤ fold (λ (s : ℕ) (l : Measure). max s l.size) (max a (size_of table x)) (map (layout_of table) ms))
+          × (Contains ms m → size_of table m ≤ fold (λ (s : ℕ) (l : Measure). max s l.size) (max a (size_of table x)) (map (layout_of table) ms)))
+          → size_of table m ≤ fold (λ (s : ℕ) (l : Measure). max s l.size) (max a (size_of table x)) (map (layout_of table) ms)
+      by (zero, l, q) r = let h = r.0 in let e = ap (size_of table) q in omega arith
+      by (suc k, l, q) r = r.1 (k, omega (arith, l), q)
+
+  pub union_rest : (tag : ℕ) (u : TypeId) → shape_at table t ≡ Union tag → Contains (members_at table t) u → at + size_of table t ≤ 1048576 → IsRest table (Copies u at 1)
+  union_rest tag u e c b = (
+    part_full (Union tag) e u c,
+    omega arith,
+    let z = size_by (Union tag) e in let g = (greatest u (members_at table t) 0).1 c in
+    let r = rounded_up (greatest_size (map (layout_of table) (members_at table t))) (greatest_align (map (layout_of table) (members_at table t))) in omega arith,
+  )
+
+  pub member_rest : (tag i : ℕ) (m : TypeId) → shape_at table t ≡ Struct tag → i < length (members_at table t) → m ≡ get_or (members_at table t) i t → at + size_of table t ≤ 1048576
+      → IsRest table (Copies m (at + offset_of table t i) 1)
+  member_rest tag i m e l q b = (
+    part_full (Struct tag) e m (subst (Contains (members_at table t)) (sym q) (Contains-get_or (members_at table t) i t l)),
+    omega arith,
+    let z = part_within table w t tag i e l in let s = ap (size_of table) q in omega arith,
+  )

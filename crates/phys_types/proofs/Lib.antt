@@ -35,6 +35,7 @@ pub mod Tops
 pub mod AllPairsFound
 pub mod Knowing
 pub mod MixedSpots
+pub mod MixedUnions
 pub mod Refined
 pub mod Turned
 pub mod Reading

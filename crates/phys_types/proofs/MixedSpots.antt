@@ -27,7 +27,7 @@ use Rattle.phys_types.specs.Spots.{item_size, item_cells, cells_from, HasSize, A
 use Rattle.phys_types.specs.Standing.{union_of_item, HoldsUnion}
 
 -- a byte of the mixed union v is among the cells
-abbrev HasMixed : List Cell → TypeId → Type 0
+abbrev pub HasMixed : List Cell → TypeId → Type 0
 HasMixed cells v = (i : ℕ) × (j : ℕ) × (slice_get cells i ≡ Some (mixed v j))
 
 has_append : (xs ys : List Cell) (v : TypeId) → HasMixed (xs ++ ys) v → HasMixed xs v ⊎ HasMixed ys v
@@ -67,7 +67,7 @@ has_item size (Mixed t zero) v s e = absurd (let h = s.1 in omega arith)
 has_item size (Mixed t (suc n)) v s e = (0, 0, let u : t ≡ v = cc e in ap (λ x. Some (mixed x 0)) u)
 has_item size (Incomplete t) v s e = absurd (cc e)
 
-spots_have : (at end : ℕ) (ss : List Spot) (v : TypeId) → HasMixed (cells_from at ss end) v → HoldsUnion ss v
+pub spots_have : (at end : ℕ) (ss : List Spot) (v : TypeId) → HasMixed (cells_from at ss end) v → HoldsUnion ss v
 spots_have at end [] v h = absurd (none_raw (end - at) h.0 h.1 v h.2)
 spots_have at end (s ∷ ss) v h = elim (has_append (replicate (s.start - at) raw) (item_cells s.item ++ cells_from (s.start + item_size s.item) ss end) v h) [
   | inl k ↦ absurd (none_raw (s.start - at) k.0 k.1 v k.2)
@@ -77,7 +77,7 @@ spots_have at end (s ∷ ss) v h = elim (has_append (replicate (s.start - at) ra
   ]
 ]
 
-have_spots : (size : TypeId → ℕ) (at end : ℕ) (ss : List Spot) (v : TypeId) → AreSpots size at ss end → (s : Spot) → Contains ss s → union_of_item s.item ≡ Some v
+pub have_spots : (size : TypeId → ℕ) (at end : ℕ) (ss : List Spot) (v : TypeId) → AreSpots size at ss end → (s : Spot) → Contains ss s → union_of_item s.item ≡ Some v
     → HasMixed (cells_from at ss end) v
 have_spots size at end [] v a s c e = absurd (omega (arith, c.1))
 have_spots size at end (x ∷ ss) v a s (zero, l, q) e =

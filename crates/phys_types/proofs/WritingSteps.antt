@@ -1,5 +1,5 @@
 -- What each step of writing out a type does to its spots and to what is put off.
-use Rattle.std.proofs.Common.{◌≡◌, ℕ, zero, suc, ◌+◌, ◌-◌, ◌*◌, ◌<◌, ◌≤◌, max, Bool, true, false, ◌||◌, List, [], ◌∷◌, ◌++◌, length, get_or, map, drop, None, refl, ap, sym, subst, ◌∙◌, Some, true≢false, append_assoc, arith}
+use Rattle.std.proofs.Common.{◌≡◌, ℕ, zero, suc, ◌+◌, ◌-◌, ◌*◌, ◌<◌, ◌≤◌, max, Bool, true, false, List, [], ◌∷◌, ◌++◌, length, get_or, map, drop, None, refl, ap, sym, subst, ◌∙◌, Some, true≢false, append_assoc, arith}
 use Rattle.std.specs.List.{Contains, fold, list_any}
 use Rattle.std.proofs.lemmas.List.{append-nil, map-append}
 use Rattle.std.proofs.Math.Seq.{drop-cons}
@@ -25,6 +25,7 @@ use Rattle.phys_types.specs.declared.writing.Rest.TheVariants.{Copies, Members}
 use Rattle.phys_types.specs.Spots.{shifted, copies}
 use Rattle.phys_types.specs.Written.{one_spot, member_spots, of_some_part, is_mixed_at, union_spots_of, spots_of_shape, spots_at}
 use Rattle.phys_types.specs.Writing.{rest_spots, all_rest, rest_type, IsRest, AreSeen, Writes}
+use Rattle.phys_types.proofs.Knowing.{neither}
 use Rattle.phys_types.proofs.Structs.{holds_is, part_within}
 use Rattle.phys_types.proofs.WrittenOut.{spots_are}
 
@@ -151,12 +152,8 @@ module _ (table : Table) (w : IsWellFormed table) (E : Relation) where
 
   none_holds : (ms : List TypeId) → list_any (holds_pointer table) ms ≡ false → (m : TypeId) → Contains ms m → holds_pointer table m ≡ false
   none_holds [] h m c = absurd (omega (arith, c.1))
-  none_holds (x ∷ ms) h m c = by (holds_pointer table x) refl c
-    where
-      by : (b : Bool) → holds_pointer table x ≡ b → Contains (x ∷ ms) m → holds_pointer table m ≡ false
-      by true e d = absurd (true≢false (ap (λ b. b || list_any (holds_pointer table) ms) (sym e) ∙ h))
-      by false e (zero, l, q) = ap (holds_pointer table) (sym q) ∙ e
-      by false e (suc k, l, q) = none_holds ms (ap (λ b. b || list_any (holds_pointer table) ms) (sym e) ∙ h) m (k, omega (arith, l), q)
+  none_holds (x ∷ ms) h m (zero, l, q) = ap (holds_pointer table) (sym q) ∙ (neither (holds_pointer table x) (list_any (holds_pointer table) ms) h).0
+  none_holds (x ∷ ms) h m (suc k, l, q) = none_holds ms (neither (holds_pointer table x) (list_any (holds_pointer table) ms) h).1 m (k, omega (arith, l), q)
 
   none_in : (t : TypeId) (s : TypeShape) (ms : List TypeId) → is_complete_entry s ms ≡ true → holds_in_shape (holds_pointer table) s ms ≡ false → holds_pointer table t ≡ false
       → ((m : TypeId) → Contains (parts_of_shape s ms) m → holds_pointer table m ≡ false → spots_at table E m ≡ [])

@@ -136,9 +136,9 @@ pub mixed_is : (table : Table) → IsWellFormed table → (t : TypeId)
 mixed_is table w t =
     let a = shown table w (physically_equal table) t in (
       (λ h. let u = there_mixed table w (physically_equal table) t h in
-      subst (λ cs. (i : ℕ) × (j : ℕ) × (slice_get cs i ≡ Some (mixed t j))) a.1
-      (have_spots (size_of table) 0 (length (cells_at table (physically_equal table) t)) (spots_at table (physically_equal table) t) t a.0 u.0 u.1 u.2)),
+          subst (λ cs. (i : ℕ) × (j : ℕ) × (slice_get cs i ≡ Some (mixed t j))) a.1
+          (have_spots (size_of table) 0 (length (cells_at table (physically_equal table) t)) (spots_at table (physically_equal table) t) t a.0 u.0 u.1 u.2)),
       (λ h. mixed_there table w (physically_equal table) t
-      (spots_have 0 (length (cells_at table (physically_equal table) t)) (spots_at table (physically_equal table) t) t
-      (subst (λ cs. (i : ℕ) × (j : ℕ) × (slice_get cs i ≡ Some (mixed t j))) (sym a.1) h))),
+          (spots_have 0 (length (cells_at table (physically_equal table) t)) (spots_at table (physically_equal table) t) t
+          (subst (λ cs. (i : ℕ) × (j : ℕ) × (slice_get cs i ≡ Some (mixed t j))) (sym a.1) h))),
     )

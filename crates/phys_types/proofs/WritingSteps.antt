@@ -285,7 +285,7 @@ module _ (table : Table) (w : IsWellFormed table) (t : TypeId) (at : ℕ) where
     part_full (Union tag) e u c,
     omega arith,
     let z = size_by (Union tag) e in let g = (greatest u (members_at table t) 0).1 c in
-    let r = rounded_up (greatest_size (map (layout_of table) (members_at table t))) (greatest_align (map (layout_of table) (members_at table t))) in omega arith,
+        let r = rounded_up (greatest_size (map (layout_of table) (members_at table t))) (greatest_align (map (layout_of table) (members_at table t))) in omega arith,
   )
 
   pub member_rest : (tag i : ℕ) (m : TypeId) → shape_at table t ≡ Struct tag → i < length (members_at table t) → m ≡ get_or (members_at table t) i t → at + size_of table t ≤ 1048576

@@ -66,14 +66,17 @@ fn write_union(
     if own.mixed {
         return push_item(spots, at, Item::Mixed(ty, types.size_of(ty)));
     }
-    if let Some(member) = largest_member(types, ty) {
-        rest.push(Rest::Copies {
-            ty: member,
-            at,
-            count: 1,
-        })?;
+    match largest_member(types, ty) {
+        Some(member) => {
+            rest.push(Rest::Copies {
+                ty: member,
+                at,
+                count: 1,
+            })?;
+            Ok(())
+        }
+        None => Ok(()),
     }
-    Ok(())
 }
 
 /// Writes a complete type that holds a pointer: what it is itself, and its parts are put off.
@@ -166,13 +169,15 @@ fn write_copies(
         → OnOk result (Writes types.now E seen (copies count (size_of types.now ty) at (spots_at types.now E ty))
         spots.old.items rest.old.items spots.new.items rest.new.items) }
 {
-    if count > 1 {
-        rest.push(Rest::Copies {
-            ty,
-            at: at + types.size_of(ty),
-            count: count - 1,
-        })?;
+    if count < 2 {
+        return write_type(types, outlines, rest, spots, ty, at);
     }
+    let next = at + types.size_of(ty);
+    rest.push(Rest::Copies {
+        ty,
+        at: next,
+        count: count - 1,
+    })?;
     write_type(types, outlines, rest, spots, ty, at)
 }
 
@@ -195,19 +200,20 @@ fn put_off_members(
         → OnOk result (Writes types.now E seen (rest_spots types.now (spots_at types.now E) (Members ty at first))
         spots rest.old.items spots rest.new.items) }
 {
-    if first < types.fields(ty) {
-        let field = types.field(ty, first);
-        rest.push(Rest::Members {
-            ty,
-            at,
-            first: first + 1,
-        })?;
-        rest.push(Rest::Copies {
-            ty: field.ty,
-            at: at + field.offset,
-            count: 1,
-        })?;
+    if first >= types.fields(ty) {
+        return Ok(());
     }
+    let field = types.field(ty, first);
+    rest.push(Rest::Members {
+        ty,
+        at,
+        first: first + 1,
+    })?;
+    rest.push(Rest::Copies {
+        ty: field.ty,
+        at: at + field.offset,
+        count: 1,
+    })?;
     Ok(())
 }
 

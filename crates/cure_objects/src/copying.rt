@@ -227,7 +227,8 @@ fn layout_in<'a>(
     types: &Types,
 ) -> Result<Option<Lent<'a>>, NoMemory>
     requires { types.now ≡ known.now }
-    ensures there { IfOk result (λ found. IfSome found (λ lent. TellsPointers known.now t (lent_layout lent))) }
+    ensures there { IfOk result (λ found. IfSome found (λ lent. TellsPointers known.now t
+        (lent_layout lent))) }
     ensures none { IfOk result (λ found. IfNone found (IsType known.now t → ⊥)) }
 {
     let count = types.count();

@@ -43,7 +43,8 @@ fn member_at(types: &Types, t: TypeId, offset: u64) -> usize
     requires shape { IsStruct types.now t }
     ensures there { result < length (members_at types.now t) }
     ensures passed { offset_of types.now t result ≤ offset }
-    ensures next { (i : ℕ) → result < i → i < length (members_at types.now t) → offset < offset_of types.now t i }
+    ensures next { (i : ℕ) → result < i → i < length (members_at types.now t)
+        → offset < offset_of types.now t i }
 {
     let mut low = 0;
     let mut high = types.fields(t);
@@ -107,8 +108,10 @@ fn into_part(types: &Types, all: &[CuredType], p: Point) -> Step {
 
 /// One step down.
 pub(crate) fn step(types: &Types, all: &[CuredType], p: Point) -> Step
-    requires { (kinds : List Kind) × AreCuredTypes types.now kinds all.now × IsPoint types.now kinds p }
-    ensures { (kinds : List Kind) (rank : TypeId → ℕ) → IsRanked types.now rank → AreCuredTypes types.now kinds all.now
+    requires { (kinds : List Kind) × AreCuredTypes types.now kinds all.now × IsPoint types.now
+        kinds p }
+    ensures { (kinds : List Kind) (rank : TypeId → ℕ) → IsRanked types.now rank
+        → AreCuredTypes types.now kinds all.now
         → IsPoint types.now kinds p → IsStep types.now kinds rank p result }
 {
     let own = cured(all, p.ty);

@@ -74,7 +74,8 @@ fn structure(
     requires complete { IsComplete types.now t }
     requires fits { length all.now ≡ length types.now }
     requires shape { IsStruct types.now t }
-    ensures { (kinds : List Kind) → ((p : TypeId) (d : CuredType) → Contains (parts_at types.now t) p
+    ensures { (kinds : List Kind) → ((p : TypeId) (d : CuredType)
+        → Contains (parts_at types.now t) p
         → IsCuredType types.now kinds p (slice_index_or all.now p.0 d))
         → IfOk result (IsCuredType types.now kinds t) }
 {
@@ -103,7 +104,8 @@ fn union(alloc: Global, types: &Types, all: &[CuredType], t: TypeId) -> CuredTyp
     requires shape { IsUnion types.now t }
     requires holds { holds_pointer types.now t ≡ true }
     requires plain { HoldsMixed types.now t t → ⊥ }
-    ensures { (kinds : List Kind) → ((p : TypeId) (d : CuredType) → Contains (parts_at types.now t) p
+    ensures { (kinds : List Kind) → ((p : TypeId) (d : CuredType)
+        → Contains (parts_at types.now t) p
         → IsCuredType types.now kinds p (slice_index_or all.now p.0 d))
         → IsCuredType types.now kinds t result }
 {

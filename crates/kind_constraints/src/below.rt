@@ -53,7 +53,8 @@ pub(crate) fn pointees_of(
 fn has_below(known: &Known, pointees: &[TypeId], t: TypeId) -> Result<bool, NoMemory>
     requires typed { IsType known.now t }
     requires pointees { All (IsType known.now) pointees.now }
-    ensures { IfOk result (λ below. below ≡ list_any (λ q. strictly_below known.now q t) pointees.now) }
+    ensures { IfOk result (λ below. below
+        ≡ list_any (λ q. strictly_below known.now q t) pointees.now) }
 {
     'pointees: for pointee in pointees {
         if known.strictly_below(*pointee, t)? {

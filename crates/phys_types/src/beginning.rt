@@ -43,7 +43,8 @@ fn may_begin(
     requires second { IsType types.now u }
     ensures { (E : Relation) (seen : List TypeId) → AreOutlined types.now E seen outlines.now
         → Contains seen t → Contains seen u → IfOk result (λ may. IsFalse may
-        → begins (same_number (number_in numbers.now)) (cells_at types.now E t) (cells_at types.now E u) ≡ false) }
+        → begins (same_number (number_in numbers.now)) (cells_at types.now E t)
+        (cells_at types.now E u) ≡ false) }
 {
     if cell_count(types, t) < cell_count(types, u) {
         return Ok(false);
@@ -71,8 +72,10 @@ pub(crate) fn begin_alike(
     requires second { IsType types.now u }
     ensures { (seen : List TypeId)
         → AreOutlined types.now (same_number (number_in numbers.now)) seen outlines.now
-        → Contains seen t → Contains seen u → IfOk result (λ begin. begin ≡ begins (same_number (number_in numbers.now))
-        (cells_at types.now (same_number (number_in numbers.now)) t) (cells_at types.now (same_number (number_in numbers.now)) u)) }
+        → Contains seen t → Contains seen u
+        → IfOk result (λ begin. begin ≡ begins (same_number (number_in numbers.now))
+        (cells_at types.now (same_number (number_in numbers.now)) t) (cells_at types.now
+        (same_number (number_in numbers.now)) u)) }
 {
     let may = may_begin(alloc, types, numbers, outlines, t, u)?;
     if !may {

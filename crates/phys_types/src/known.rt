@@ -81,7 +81,8 @@ impl<'a> Known<'a> {
     /// The layout of a type, its cells: one that is short is kept, and another one is written out.
     pub fn layout(&self, t: TypeId) -> Result<Lent<'_>, NoMemory>
         requires { IsType self.now t }
-        ensures { IfOk result (λ lent. IsLayoutOf self.now (physically_equal self.now) t (lent_layout lent)) }
+        ensures { IfOk result (λ lent. IsLayoutOf self.now (physically_equal self.now) t
+            (lent_layout lent)) }
     {
         lend(self.alloc, self.types, &self.outlines, t)
     }

@@ -114,7 +114,8 @@ pub(crate) fn look_alike(
     requires second { IsType types.now u }
     ensures { (E : Relation) (seen : List TypeId) → AreOutlined types.now E seen outlines.now
         → Contains seen t → Contains seen u → IfOk result (λ alike.
-        alike ≡ same_makeup (same_number (number_in numbers.now)) (makeup_at types.now E t) (makeup_at types.now E u)) }
+        alike ≡ same_makeup (same_number (number_in numbers.now)) (makeup_at types.now E t)
+        (makeup_at types.now E u)) }
 {
     if cell_count(types, t) != cell_count(types, u) {
         return Ok(false);

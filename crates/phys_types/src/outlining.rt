@@ -34,7 +34,8 @@ fn member_holds(types: &Types, outlines: &[Outline], t: TypeId) -> bool
     requires typed { IsType types.now t }
     requires aggregate { IsAggregate types.now t }
     ensures { (E : Relation) (seen : List TypeId) → AreOutlined types.now E seen outlines.now
-        → IsPartsSeen types.now seen t → result ≡ list_any (holds_pointer types.now) (members_at types.now t) }
+        → IsPartsSeen types.now seen t
+        → result ≡ list_any (holds_pointer types.now) (members_at types.now t) }
 {
     'members: for i in 0..types.fields(t) {
         if kept(outlines, types.field(t, i).ty).holds {
@@ -80,7 +81,8 @@ fn begins_with_members(
         → IsPartsSeen types.now seen v
         → IsLayoutOf types.now (same_number (number_in numbers.now)) m layout.now
         → IfOk result (λ begin. begin ≡ list_all
-        (begins (same_number (number_in numbers.now)) (cells_at types.now (same_number (number_in numbers.now)) m))
+        (begins (same_number (number_in numbers.now)) (cells_at types.now (same_number
+        (number_in numbers.now)) m))
         (map (cells_at types.now (same_number (number_in numbers.now))) (members_at types.now v))) }
 {
     'members: for i in 0..types.fields(v) {
@@ -108,7 +110,8 @@ fn is_mixed(
     ensures { (seen : List TypeId)
         → AreOutlined types.now (same_number (number_in numbers.now)) seen outlines.now
         → IsPartsSeen types.now seen v → holds_pointer types.now v ≡ true
-        → IfOk result (λ mixed. mixed ≡ is_mixed_at types.now (same_number (number_in numbers.now)) v) }
+        → IfOk result (λ mixed. mixed
+        ≡ is_mixed_at types.now (same_number (number_in numbers.now)) v) }
 {
     match largest_member(types, v) {
         Some(member) => {
@@ -207,7 +210,8 @@ fn add_outline(
     ensures added { (seen : List TypeId)
         → AreOutlined types.now (same_number (number_in numbers.now)) seen outlines.old
         → IsPartsSeen types.now seen t
-        → OnOk result (AreOutlined types.now (same_number (number_in numbers.now)) (seen ++ (t ∷ [])) outlines.new) }
+        → OnOk result (AreOutlined types.now (same_number (number_in numbers.now)) (seen ++
+        (t ∷ [])) outlines.new) }
 {
     outlines[t.0 as usize] = outline_of(alloc, types, numbers, outlines, t)?;
     let layout = short(alloc, types, outlines, t)?;

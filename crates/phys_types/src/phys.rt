@@ -129,7 +129,8 @@ pub(crate) fn add_settled_top(
     requires from { IsType types.now from }
     requires to { IsType types.now to }
     requires class { class ≡ flow_class types.now from to }
-    ensures { OnOk result (Gains (CorrespondAtTop types.now (flow_class types.now from to) from to) found.old found.new) }
+    ensures { OnOk result (Gains (CorrespondAtTop types.now
+        (flow_class types.now from to) from to) found.old found.new) }
 {
     let x = lend(alloc, types, outlines, from)?;
     let y = lend(alloc, types, outlines, to)?;
@@ -213,7 +214,8 @@ fn unequal_class(
 ) -> Result<FlowClass, NoMemory>
     requires x_low { IsLow x.now }
     requires y_low { IsLow y.now }
-    ensures { (table : Table) (from to : TypeId) → IsWellFormed table → IsType table from → IsType table to
+    ensures { (table : Table) (from to : TypeId) → IsWellFormed table → IsType table from
+        → IsType table to
         → IsPair table (number_in numbers.now) from x.now to y.now
         → IsFalse (physically_equal table from to)
         → IsFalse (is_function table from || is_function table to)

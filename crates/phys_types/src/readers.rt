@@ -82,7 +82,8 @@ fn add_reader_of(
 fn add_spots_reader(readers: &mut [Vec<TypeId>], t: TypeId, spots: &[Spot]) -> Result<(), NoMemory>
     ensures fits { OnOk result (length readers.new ≡ length readers.old) }
     ensures kept { OnOk result (HaveAll readers.old readers.new) }
-    ensures added { OnOk result ((to : TypeId) → Contains (flat_map (λ s. item_targets s.item) spots.now) to
+    ensures added { OnOk result ((to : TypeId)
+        → Contains (flat_map (λ s. item_targets s.item) spots.now) to
         → to.0 < length readers.old → Contains (list_in readers.new to) t) }
 {
     'spots: for spot in spots {
@@ -101,7 +102,8 @@ fn add_slots_reader(
     requires { All (IsType types.now) ps.now }
     ensures fits { OnOk result (length readers.new ≡ length readers.old) }
     ensures kept { OnOk result (HaveAll readers.old readers.new) }
-    ensures added { OnOk result ((to : TypeId) → Contains (flat_map (λ p. slot_targets (slot_in types.now p)) ps.now) to
+    ensures added { OnOk result ((to : TypeId)
+        → Contains (flat_map (λ p. slot_targets (slot_in types.now p)) ps.now) to
         → to.0 < length readers.old → Contains (list_in readers.new to) t) }
 {
     'slots: for p in ps {

@@ -45,7 +45,8 @@ fn formed(
     requires typed { IsType types.now t }
     ensures fits { OnOk result (length readers.new ≡ length readers.old) }
     ensures kept { OnOk result (HaveAll readers.old readers.new) }
-    ensures read { (E : Relation) → AreAllOutlined types.now E outlines.now → OnOk result ((to : TypeId)
+    ensures read { (E : Relation) → AreAllOutlined types.now E outlines.now
+        → OnOk result ((to : TypeId)
         → Contains (front_targets types.now E limit t) to → to.0 < length readers.old
         → Contains (list_in readers.new to) t) }
     ensures number { (E : Relation) → AreAllOutlined types.now E outlines.now
@@ -76,7 +77,8 @@ fn all_formed(
         → IfOk result (λ ns. (t : TypeId) → IsType types.now t
         → number_in ns.items t ≡ mixed (number_in numbers.now t) (front_form types.now E limit t)) }
     ensures read { (E : Relation) → AreAllOutlined types.now E outlines.now
-        → OnOk result (AreReaders (front_targets types.now E limit) (length types.now) readers.new) }
+        → OnOk result (AreReaders (front_targets types.now E limit)
+        (length types.now) readers.new) }
 {
     let mut forms = Vec::with_capacity(alloc, types.count() as usize)?;
     'types: for t in 0..types.count() {

@@ -53,9 +53,12 @@ fn first_alike(
     requires low { AreShortLow outlines.now }
     requires typed { IsType types.now t }
     requires types { All (IsType types.now) so_far.now }
-    ensures { (seen : List TypeId) → AreOutlined types.now (same_number (number_in numbers.now)) seen outlines.now
+    ensures { (seen : List TypeId)
+        → AreOutlined types.now (same_number (number_in numbers.now)) seen outlines.now
         → Contains seen t → ((u : TypeId) → Contains so_far.now u → Contains seen u)
-        → IfOk result (λ place. place ≡ first_place (λ u. made_alike types.now (same_number (number_in numbers.now)) u t) so_far.now) }
+        → IfOk result (λ place. place
+        ≡ first_place (λ u. made_alike types.now (same_number
+        (number_in numbers.now)) u t) so_far.now) }
 {
     for (i, other) in so_far.iter().enumerate() {
         let alike = look_alike(alloc, types, numbers, outlines, *other, t)?;
@@ -76,7 +79,8 @@ pub(crate) fn renumber(
 ) -> Result<Round, NoMemory>
     requires formed { IsWellFormed types.now }
     requires order { (places : List ℕ) × IsWholeOrder types.now order.now places }
-    ensures { IfOk result (λ round. IsRound types.now (same_number (number_in numbers.now)) order.now round.numbers.items round.outlines.items) }
+    ensures { IfOk result (λ round. IsRound types.now (same_number
+        (number_in numbers.now)) order.now round.numbers.items round.outlines.items) }
 {
     let outlines = outlined(alloc, types, order, numbers)?;
     let mut next = zeros(alloc, types.count() as usize)?;
@@ -121,8 +125,10 @@ fn look_alike_at(
     requires low { AreShortLow outlines.now }
     requires types { All (IsType types.now) order.now }
     requires place { place < length order.now }
-    ensures { (d : TypeId) → AreOutlined types.now (same_number (number_in numbers.now)) order.now outlines.now
-        → IfOk result (λ alike. IsTrue alike → IsTrue (made_alike types.now (same_number (number_in numbers.now))
+    ensures { (d : TypeId)
+        → AreOutlined types.now (same_number (number_in numbers.now)) order.now outlines.now
+        → IfOk result (λ alike. IsTrue alike
+        → IsTrue (made_alike types.now (same_number (number_in numbers.now))
         (slice_index_or order.now first d) (slice_index_or order.now place d))) }
 {
     if first == place {

@@ -122,7 +122,8 @@ fn signed(signature: usize, numbers: &[usize], target: Option<TypeId>) -> usize
 
 /// What spots point to, by numbers.
 fn spots_signature(numbers: &[usize], spots: &[Spot]) -> usize
-    ensures { result ≡ mixed_all 0 (number_in numbers.now) (flat_map (λ s. item_targets s.item) spots.now) }
+    ensures { result ≡ mixed_all 0 (number_in numbers.now) (flat_map
+        (λ s. item_targets s.item) spots.now) }
 {
     let mut signature = 0;
     'spots: for spot in spots {

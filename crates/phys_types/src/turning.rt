@@ -96,8 +96,10 @@ fn reading(
 /// What a type points to, by numbers.
 fn signature(alloc: Global, graph: &Graph, numbers: &[usize], t: TypeId) -> Result<usize, NoMemory>
     requires { IsGraph graph.now }
-    ensures { (E : Relation) → AreAllOutlined graph.now.types.now E graph.now.outlines.now → IfOk result
-        (λ signature. signature ≡ signature_in numbers.now (front_targets graph.now.types.now E graph.now.limit) t) }
+    ensures { (E : Relation) → AreAllOutlined graph.now.types.now E graph.now.outlines.now
+        → IfOk result
+        (λ signature. signature
+        ≡ signature_in numbers.now (front_targets graph.now.types.now E graph.now.limit) t) }
 {
     if t.0 >= graph.types.count() {
         return Ok(0);
@@ -117,7 +119,9 @@ fn tell(
 ) -> Result<(), NoMemory>
     requires { IsGraph graph.now }
     ensures { (E : Relation) → AreAllOutlined graph.now.types.now E graph.now.outlines.now
-        → OnOk result (told.new.items ≡ told.old.items ++ told_at fresh.now (front_targets graph.now.types.now E graph.now.limit) t) }
+        → OnOk result (told.new.items
+        ≡ told.old.items ++ told_at fresh.now
+        (front_targets graph.now.types.now E graph.now.limit) t) }
 {
     let number = signature(alloc, graph, fresh, t)?;
     if number != 0 {
@@ -135,7 +139,9 @@ fn told(
 ) -> Result<Vec<Numbered>, NoMemory>
     requires { IsGraph graph.now }
     ensures { (E : Relation) → AreAllOutlined graph.now.types.now E graph.now.outlines.now
-        → IfOk result (λ told. told.items ≡ flat_map (told_at fresh.now (front_targets graph.now.types.now E graph.now.limit)) types.now) }
+        → IfOk result (λ told. told.items
+        ≡ flat_map (told_at fresh.now
+        (front_targets graph.now.types.now E graph.now.limit)) types.now) }
 {
     let mut told = Vec::new(alloc);
     'types: for t in types {
@@ -288,9 +294,12 @@ fn told_apart(
     changed: &[Numbered],
 ) -> Result<Vec<Numbered>, NoMemory>
     requires { IsGraph graph.now }
-    ensures { (E : Relation) → AreAllOutlined graph.now.types.now E graph.now.outlines.now → length fresh.now ≡ length graph.now.types.now
-        → AreReaders (front_targets graph.now.types.now E graph.now.limit) (length fresh.now) graph.now.readers.items → AreMarked fresh.now changed.now
-        → IfOk result (λ renamed. AreNew (front_targets graph.now.types.now E graph.now.limit) (length fresh.now) numbers.now fresh.now renamed.items) }
+    ensures { (E : Relation) → AreAllOutlined graph.now.types.now E graph.now.outlines.now
+        → length fresh.now ≡ length graph.now.types.now
+        → AreReaders (front_targets graph.now.types.now E graph.now.limit)
+        (length fresh.now) graph.now.readers.items → AreMarked fresh.now changed.now
+        → IfOk result (λ renamed. AreNew (front_targets graph.now.types.now E graph.now.limit)
+        (length fresh.now) numbers.now fresh.now renamed.items) }
 {
     let touched = reading(alloc, &graph.readers, changed)?;
     let told = told(alloc, fresh, graph, touched.as_slice())?;
@@ -313,9 +322,13 @@ pub(crate) fn turn(
     ensures numbers { length numbers.new ≡ length numbers.old }
     ensures fresh { length fresh.new ≡ length fresh.old }
     ensures turned { (E : Relation) → AreAllOutlined graph.now.types.now E graph.now.outlines.now
-        → IsTurning graph.now.types.now (front_targets graph.now.types.now E graph.now.limit) graph.now.readers.items numbers.old fresh.old changed.now
+        → IsTurning graph.now.types.now
+        (front_targets graph.now.types.now E graph.now.limit) graph.now.readers.items numbers.old
+        fresh.old changed.now
         → IfOk result (λ renamed.
-        IsTurning graph.now.types.now (front_targets graph.now.types.now E graph.now.limit) graph.now.readers.items numbers.new fresh.new renamed.items) }
+        IsTurning graph.now.types.now
+        (front_targets graph.now.types.now E graph.now.limit) graph.now.readers.items numbers.new
+        fresh.new renamed.items) }
 {
     let renamed = told_apart(alloc, graph, sizes, numbers, fresh, changed)?;
     clear(fresh, changed);

@@ -57,7 +57,8 @@ fn write_union(
     requires right { All (IsRest types.now) rest.old.items }
     ensures right { OnOk result (All (IsRest types.now) rest.new.items) }
     ensures lighter { OnOk result
-        (all_weights types.now rest.new.items ≤ all_weights types.now rest.old.items + weight types.now ty) }
+        (all_weights types.now rest.new.items ≤ all_weights types.now rest.old.items + weight
+        types.now ty) }
     ensures written { (E : Relation) (seen : List TypeId) → IsOutline types.now E ty own.now
         → own.now.holds ≡ true → IsPartsSeen types.now seen ty → AreSeen seen rest.old.items
         → OnOk result (Writes types.now E seen (map (shifted at) (spots_at types.now E ty))
@@ -94,7 +95,8 @@ fn write_parts(
     requires right { All (IsRest types.now) rest.old.items }
     ensures right { OnOk result (All (IsRest types.now) rest.new.items) }
     ensures lighter { OnOk result
-        (all_weights types.now rest.new.items ≤ all_weights types.now rest.old.items + weight types.now ty) }
+        (all_weights types.now rest.new.items ≤ all_weights types.now rest.old.items + weight
+        types.now ty) }
     ensures written { (E : Relation) (seen : List TypeId) → IsOutline types.now E ty own.now
         → own.now.holds ≡ true → IsPartsSeen types.now seen ty → AreSeen seen rest.old.items
         → OnOk result (Writes types.now E seen (map (shifted at) (spots_at types.now E ty))
@@ -133,8 +135,10 @@ fn write_type(
     requires within { at + size_of types.now ty ≤ 1048576 }
     ensures ready { OnOk result (CanWrite types.now outlines.now rest.new.items) }
     ensures lighter { OnOk result
-        (all_weights types.now rest.new.items ≤ all_weights types.now rest.old.items + weight types.now ty) }
-    ensures written { (E : Relation) (seen : List TypeId) → AreOutlined types.now E seen outlines.now
+        (all_weights types.now rest.new.items ≤ all_weights types.now rest.old.items + weight
+        types.now ty) }
+    ensures written { (E : Relation) (seen : List TypeId)
+        → AreOutlined types.now E seen outlines.now
         → Contains seen ty → AreSeen seen rest.old.items
         → OnOk result (Writes types.now E seen (map (shifted at) (spots_at types.now E ty))
         spots.old.items rest.old.items spots.new.items rest.new.items) }
@@ -163,10 +167,13 @@ fn write_copies(
     requires right { IsRest types.now (Copies ty at count) }
     ensures ready { OnOk result (CanWrite types.now outlines.now rest.new.items) }
     ensures lighter { OnOk result
-        (all_weights types.now rest.new.items < all_weights types.now rest.old.items + rest_weight types.now (Copies ty at count)) }
-    ensures written { (E : Relation) (seen : List TypeId) → AreOutlined types.now E seen outlines.now
+        (all_weights types.now rest.new.items < all_weights types.now rest.old.items + rest_weight
+        types.now (Copies ty at count)) }
+    ensures written { (E : Relation) (seen : List TypeId)
+        → AreOutlined types.now E seen outlines.now
         → Contains seen ty → AreSeen seen rest.old.items
-        → OnOk result (Writes types.now E seen (copies count (size_of types.now ty) at (spots_at types.now E ty))
+        → OnOk result (Writes types.now E seen (copies count (size_of types.now ty) at
+        (spots_at types.now E ty))
         spots.old.items rest.old.items spots.new.items rest.new.items) }
 {
     if count < 2 {
@@ -194,10 +201,13 @@ fn put_off_members(
     requires right { All (IsRest types.now) rest.old.items }
     ensures right { OnOk result (All (IsRest types.now) rest.new.items) }
     ensures lighter { OnOk result
-        (all_weights types.now rest.new.items < all_weights types.now rest.old.items + rest_weight types.now (Members ty at first)) }
-    ensures written { (E : Relation) (seen : List TypeId) (spots : List Spot) → IsPartsSeen types.now seen ty
+        (all_weights types.now rest.new.items < all_weights types.now rest.old.items + rest_weight
+        types.now (Members ty at first)) }
+    ensures written { (E : Relation) (seen : List TypeId) (spots : List Spot)
+        → IsPartsSeen types.now seen ty
         → Contains seen ty → AreSeen seen rest.old.items
-        → OnOk result (Writes types.now E seen (rest_spots types.now (spots_at types.now E) (Members ty at first))
+        → OnOk result (Writes types.now E seen (rest_spots types.now (spots_at types.now E)
+        (Members ty at first))
         spots rest.old.items spots rest.new.items) }
 {
     if first >= types.fields(ty) {
@@ -229,8 +239,10 @@ fn write_next(
     requires right { IsRest types.now next }
     ensures ready { OnOk result (CanWrite types.now outlines.now rest.new.items) }
     ensures lighter { OnOk result
-        (all_weights types.now rest.new.items < all_weights types.now rest.old.items + rest_weight types.now (next)) }
-    ensures written { (E : Relation) (seen : List TypeId) → AreOutlined types.now E seen outlines.now
+        (all_weights types.now rest.new.items < all_weights types.now rest.old.items + rest_weight
+        types.now (next)) }
+    ensures written { (E : Relation) (seen : List TypeId)
+        → AreOutlined types.now E seen outlines.now
         → AreSeen seen (next ∷ []) → AreSeen seen rest.old.items
         → OnOk result (Writes types.now E seen (rest_spots types.now (spots_at types.now E) next)
         spots.old.items rest.old.items spots.new.items rest.new.items) }
@@ -254,7 +266,8 @@ fn write_rest(
     requires ready { CanWrite types.now outlines.now rest.old.items }
     ensures { (E : Relation) (seen : List TypeId) → AreOutlined types.now E seen outlines.now
         → AreSeen seen rest.old.items → OnOk result (take limit spots.new.items
-        ≡ take limit (spots.old.items ++ all_rest types.now (spots_at types.now E) rest.old.items)) }
+        ≡ take limit (spots.old.items ++ all_rest types.now
+        (spots_at types.now E) rest.old.items)) }
 {
     'rest: while spots.len() < limit {
         let Some(next) = rest.pop() else {
@@ -279,7 +292,8 @@ pub(crate) fn written(
     requires typed { IsType types.now t }
     ensures few { IfOk result (λ spots. length spots.items ≤ limit) }
     ensures spots { (E : Relation) (seen : List TypeId) → AreOutlined types.now E seen outlines.now
-        → Contains seen t → IfOk result (λ spots. spots.items ≡ take limit (spots_at types.now E t)) }
+        → Contains seen t → IfOk result (λ spots. spots.items
+        ≡ take limit (spots_at types.now E t)) }
 {
     let mut spots = Vec::new(alloc);
     if !types.is_complete(t) {
@@ -297,7 +311,8 @@ pub(crate) fn written(
 fn write_incomplete(types: &Types, spots: &mut Vec<Spot>, t: TypeId) -> Result<(), NoMemory>
     requires typed { IsType types.now t }
     requires open { is_complete (entry_at types.now t) ≡ false }
-    ensures { (E : Relation) → IsWellFormed types.now → OnOk result (spots.new.items ≡ spots.old.items ++ spots_at types.now E t) }
+    ensures { (E : Relation) → IsWellFormed types.now
+        → OnOk result (spots.new.items ≡ spots.old.items ++ spots_at types.now E t) }
 {
     match types.shape(t) {
         TypeShape::Struct(_) => push_item(spots, 0, Item::Incomplete(t)),

@@ -317,7 +317,7 @@ impl Types {
     }
 
     /// The larger of two members of a union; of two that are equally large the first.
-    fn larger(&self, found: Option<TypeId>, member: TypeId) -> Option<TypeId>
+    pub fn larger(&self, found: Option<TypeId>, member: TypeId) -> Option<TypeId>
         requires other { IfSome found (IsComplete self.now) }
         requires member { IsComplete self.now member }
         ensures { result ≡ Some (larger (size_of self.now) found member) }

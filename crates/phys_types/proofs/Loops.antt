@@ -31,6 +31,9 @@ begin_short number n (s ∷ ss) (r ∷ rs) h = by (same_spot number s r) (begin_
 
 -- ---- copies
 
+pub copies_end : (a n k : ℕ) → a + k + n * k ≡ a + suc n * k
+copies_end a n k = grind arith
+
 pub copies_more : (n k at : ℕ) (ss : List Spot) → copies (n + 1) k at ss ≡ copies n k at ss ++ map (shifted (at + n * k)) ss
 copies_more zero k at ss = append-nil (map (shifted at) ss) ∙ ap (λ m. map (shifted m) ss) (none at k)
   where
@@ -40,13 +43,10 @@ copies_more (suc n) k at ss =
     ap (λ m. copies m k at ss) (next n)
     ∙ ap (λ xs. map (shifted at) ss ++ xs) (copies_more n k (at + k) ss)
     ∙ sym (append_assoc (map (shifted at) ss) (copies n k (at + k) ss) (map (shifted (at + k + n * k)) ss))
-    ∙ ap (λ m. (map (shifted at) ss ++ copies n k (at + k) ss) ++ map (shifted m) ss) (more at n k)
+    ∙ ap (λ m. (map (shifted at) ss ++ copies n k (at + k) ss) ++ map (shifted m) ss) (copies_end at n k)
   where
     next : (n : ℕ) → suc n + 1 ≡ suc (n + 1)
     next n = omega arith
-
-    more : (a n k : ℕ) → a + k + n * k ≡ a + suc n * k
-    more a n k = grind arith
 
 pub copies_none : (n k at : ℕ) → copies n k at [] ≡ []
 copies_none zero k at = refl

@@ -19,6 +19,7 @@ use Rattle.phys_types.specs.declared.spot.Spot.{Spot}
 use Rattle.phys_types.specs.Spots.{shifted, copies}
 use Rattle.phys_types.specs.Standing.{union_of_item, HoldsUnion}
 use Rattle.phys_types.specs.Written.{one_spot, member_spots, of_some_part, is_mixed_at, union_spots_of, spots_of_shape, spots_at}
+use Rattle.phys_types.proofs.Parts.{union_tag}
 use Rattle.phys_types.proofs.MixedSpots.{spots_have, have_spots}
 use Rattle.phys_types.proofs.Structs.{holds_is}
 use Rattle.phys_types.proofs.Turned.{append_cases, one_of}
@@ -103,15 +104,6 @@ module _ (table : Table) (w : IsWellFormed table) (E : Relation) where
   pub mixed_there : (t : TypeId) → HoldsUnion (spots_at table E t) t → (is_union_shape (shape_at table t) && is_mixed_at table E t) ≡ true
   unfolding IsMixed
   mixed_there t h = own t (below (suc (w.order.0 t)) t t (omega arith) h)
-
-  union_tag : (s : TypeShape) → is_union_shape s ≡ true → (tag : ℕ) × (s ≡ Union tag)
-  union_tag (Union tag) h = (tag, refl)
-  union_tag Void h = absurd (true≢false (sym h))
-  union_tag (Integer b s) h = absurd (true≢false (sym h))
-  union_tag (Pointer n t) h = absurd (true≢false (sym h))
-  union_tag (Array e n) h = absurd (true≢false (sym h))
-  union_tag (Function ps r) h = absurd (true≢false (sym h))
-  union_tag (Struct t) h = absurd (true≢false (sym h))
 
   -- what holds a pointer has members
   full : (t : TypeId) (tag : ℕ) → shape_at table t ≡ Union tag → holds_pointer table t ≡ true → is_complete_entry (shape_at table t) (members_at table t) ≡ true

@@ -39,6 +39,15 @@ union_parts (Array e n) ms h = absurd (true≢false (sym h))
 union_parts (Function ps r) ms h = absurd (true≢false (sym h))
 union_parts (Struct t) ms h = absurd (true≢false (sym h))
 
+pub union_tag : (s : TypeShape) → is_union_shape s ≡ true → (tag : ℕ) × (s ≡ Union tag)
+union_tag (Union tag) h = (tag, refl)
+union_tag Void h = absurd (true≢false (sym h))
+union_tag (Integer b s) h = absurd (true≢false (sym h))
+union_tag (Pointer n t) h = absurd (true≢false (sym h))
+union_tag (Array e n) h = absurd (true≢false (sym h))
+union_tag (Function ps r) h = absurd (true≢false (sym h))
+union_tag (Struct t) h = absurd (true≢false (sym h))
+
 pub parts_of_struct : (table : Table) (t : TypeId) → IsStruct table t → parts_at table t ≡ members_at table t
 parts_of_struct table t h = struct_parts (shape_at table t) (members_at table t) h
 

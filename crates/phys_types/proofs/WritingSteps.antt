@@ -26,6 +26,7 @@ use Rattle.phys_types.specs.Spots.{shifted, copies}
 use Rattle.phys_types.specs.Written.{one_spot, member_spots, of_some_part, is_mixed_at, union_spots_of, spots_of_shape, spots_at}
 use Rattle.phys_types.specs.Writing.{rest_spots, all_rest, rest_type, IsRest, AreSeen, Writes}
 use Rattle.phys_types.proofs.Knowing.{neither}
+use Rattle.phys_types.proofs.Loops.{copies_none}
 use Rattle.phys_types.proofs.Structs.{holds_is, part_within}
 use Rattle.phys_types.proofs.WrittenOut.{spots_are}
 
@@ -146,10 +147,6 @@ module _ (table : Table) (w : IsWellFormed table) (E : Relation) where
   no_members f o i (m ∷ ms) h =
       λ j. map (shifted (o i)) (h m (contains_head m ms) j) ++ no_members f o (suc i) ms (λ x c. h x (contains_tail m ms x c)) j
 
-  no_copies : (n k at : ℕ) → copies n k at [] ≡ []
-  no_copies zero k at = refl
-  no_copies (suc n) k at = no_copies n k (at + k)
-
   none_holds : (ms : List TypeId) → list_any (holds_pointer table) ms ≡ false → (m : TypeId) → Contains ms m → holds_pointer table m ≡ false
   none_holds [] h m c = absurd (omega (arith, c.1))
   none_holds (x ∷ ms) h m (zero, l, q) = ap (holds_pointer table) (sym q) ∙ (neither (holds_pointer table x) (list_any (holds_pointer table) ms) h).0
@@ -161,7 +158,7 @@ module _ (table : Table) (w : IsWellFormed table) (E : Relation) where
   none_in t Void ms c h o k = refl
   none_in t (Integer b s) ms c h o k = refl
   none_in t (Pointer node to) ms c h o k = absurd (true≢false h)
-  none_in t (Array element n) ms c h o k = ap (copies n (size_of table element) 0) (k element (contains_head element []) h) ∙ no_copies n (size_of table element) 0
+  none_in t (Array element n) ms c h o k = ap (copies n (size_of table element) 0) (k element (contains_head element []) h) ∙ copies_none n (size_of table element) 0
   none_in t (Function ps r) ms c h o k = refl
   none_in t (Struct tag) [] c h o k = absurd (true≢false (sym c))
   none_in t (Struct tag) (m ∷ ms) c h o k = no_members (spots_at table E) (offset_of table t) 0 (m ∷ ms) (λ x d. k x d (none_holds (m ∷ ms) h x d))

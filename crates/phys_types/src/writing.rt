@@ -98,7 +98,8 @@ fn write_parts(
         (all_weights types.now rest.new.items ≤ all_weights types.now rest.old.items + weight
         types.now ty) }
     ensures written { (E : Relation) (seen : List TypeId) → IsOutline types.now E ty own.now
-        → own.now.holds ≡ true → IsPartsSeen types.now seen ty → AreSeen seen rest.old.items
+        → own.now.holds ≡ true → IsPartsSeen types.now seen ty → Contains seen ty
+        → AreSeen seen rest.old.items
         → OnOk result (Writes types.now E seen (map (shifted at) (spots_at types.now E ty))
         spots.old.items rest.old.items spots.new.items rest.new.items) }
 {

@@ -2,7 +2,7 @@
 use Rattle.std.proofs.Common.{◌≡◌, ◌≢◌, ⊥, ℕ, suc, ◌+◌, ◌*◌, ◌<◌, ◌≤◌, None, Some, refl, true, true≢false, List, [], ◌∷◌, ◌++◌, length, get_or, take, map, drop, ap, sym, subst, ◌∙◌, arith}
 use Rattle.std.specs.List.{All, Contains}
 use Rattle.std.proofs.Math.Option.{some-injective}
-use Rattle.std.proofs.lemmas.List.{drop_all}
+use Rattle.std.proofs.lemmas.List.{append-nil, drop_all}
 use Rattle.std.proofs.Math.Seq.{take-append_seam, drop-append_seam}
 use Rattle.std.proofs.lemmas.List.Elements.{All-push, All-same, All-head, All-take, All-drop}
 use Rattle.std.proofs.lemmas.Option.{none-some}
@@ -160,3 +160,14 @@ module _ (rest popped : List Rest) (r : Rest) (e : rest ≡ popped ++ r ∷ []) 
       → more ++ all_rest table (spots_at table E) left ≡ spots ++ all_rest table (spots_at table E) rest
   popped_writes table E seen spots more left h =
       h.same ∙ ap (λ (ss : List Spot). spots ++ ss) (sym (ap (all_rest table (spots_at table E)) e ∙ put_off table (spots_at table E) popped r))
+
+-- a type alone, from the start on
+pub first_written : (table : Table) (E : Relation) (t : TypeId) → [] ++ (map (shifted 0) (spots_at table E t) ++ []) ≡ spots_at table E t
+first_written table E t = append-nil (map (shifted 0) (spots_at table E t)) ∙ unmoved (spots_at table E t)
+  where
+    still : (n : ℕ) → n + 0 ≡ n
+    still n = omega arith
+
+    unmoved : (ss : List Spot) → map (shifted 0) ss ≡ ss
+    unmoved [] = refl
+    unmoved (s ∷ ss) = λ i. record { start = still s.start i; item = s.item } ∷ unmoved ss i

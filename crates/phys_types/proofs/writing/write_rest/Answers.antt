@@ -1,7 +1,7 @@
 use Rattle.std.proofs.Common.{◌≡◌, List, [], ◌∷◌, ◌++◌, take, refl, ap, sym, ◌∙◌, arith}
-use Rattle.std.specs.List.{option_to_list}
+use Rattle.std.specs.Option.{option_to_list}
 use Rattle.std.specs.List.{Contains}
-use Rattle.std.proofs.lemmas.List.{append-nil, take-append-le}
+use Rattle.std.proofs.lemmas.List.{append-nil, take-append-le, nil_from_length}
 use Rattle.phys_types.specs.declared.writing.Rest.{Rest}
 use Rattle.phys_types.specs.Writing.{IsRest, rest_type, all_rest}
 use Rattle.phys_types.specs.Written.{spots_at}
@@ -49,8 +49,10 @@ rest-decreases c =
 -- nothing is left
 pub returns-in-None : goal.returns-in-None
 returns-in-None c E seen o s =
-    let none = append-nil c.pop.new.self.items in
-    sym (ap (take c.args.limit) (append-nil c.rest.spots.items)) ∙ c.rest.invariant.same E seen o s
+    let n = c.pop.ensures.cases in
+    let none = nil_from_length c.rest.rest.items (omega arith) in
+    sym (ap (take c.args.limit) (ap (λ rs. c.rest.spots.items ++ all_rest c.args.types.now (spots_at c.args.types.now E) rs) none ∙ append-nil c.rest.spots.items))
+    ∙ c.rest.invariant.same E seen o s
 
 -- there are as many spots as the limit says
 pub returns : goal.returns

@@ -162,7 +162,7 @@ module _ (rest popped : List Rest) (r : Rest) (e : rest ≡ popped ++ r ∷ []) 
       h.same ∙ ap (λ (ss : List Spot). spots ++ ss) (sym (ap (all_rest table (spots_at table E)) e ∙ put_off table (spots_at table E) popped r))
 
 -- a type alone, from the start on
-pub first_written : (table : Table) (E : Relation) (t : TypeId) → [] ++ (map (shifted 0) (spots_at table E t) ++ []) ≡ spots_at table E t
+pub first_written : (table : Table) (E : Relation) (t : TypeId) → map (shifted 0) (spots_at table E t) ++ [] ≡ spots_at table E t
 first_written table E t = append-nil (map (shifted 0) (spots_at table E t)) ∙ unmoved (spots_at table E t)
   where
     still : (n : ℕ) → n + 0 ≡ n

@@ -297,15 +297,35 @@ pub(crate) fn written(
         ≡ take limit (spots_at types.now E t)) }
 {
     let mut spots = Vec::new(alloc);
-    if !types.is_complete(t) {
+    if types.is_complete(t) {
+        write_complete(alloc, types, outlines, &mut spots, t, limit)?;
+    } else {
         write_incomplete(types, &mut spots, t)?;
-        return Ok(spots);
     }
-    let mut rest = Vec::new(alloc);
-    write_type(types, outlines, &mut rest, &mut spots, t, 0)?;
-    write_rest(types, outlines, &mut rest, &mut spots, limit)?;
     spots.truncate(limit);
     Ok(spots)
+}
+
+/// Writes a complete type, until there is nothing more or there are as many spots as the limit says.
+fn write_complete(
+    alloc: Global,
+    types: &Types,
+    outlines: &[Outline],
+    spots: &mut Vec<Spot>,
+    t: TypeId,
+    limit: usize,
+) -> Result<(), NoMemory>
+    requires formed { IsWellFormed types.now }
+    requires fits { length outlines.now ≡ length types.now }
+    requires low { AreShortLow outlines.now }
+    requires complete { IsComplete types.now t }
+    ensures { (E : Relation) (seen : List TypeId) → AreOutlined types.now E seen outlines.now
+        → Contains seen t → OnOk result (take limit spots.new.items
+        ≡ take limit (spots.old.items ++ spots_at types.now E t)) }
+{
+    let mut rest = Vec::new(alloc);
+    write_type(types, outlines, &mut rest, spots, t, 0)?;
+    write_rest(types, outlines, &mut rest, spots, limit)
 }
 
 /// Writes a type that isn't complete: a struct or union without members is a spot, `void` and functions have none.

@@ -1,5 +1,5 @@
 -- What is put off of copies and members, and what is known of it.
-use Rattle.std.proofs.Common.{◌≡◌, ◌≢◌, ⊥, ℕ, suc, ◌+◌, ◌*◌, ◌<◌, ◌≤◌, None, Some, refl, true, true≢false, List, [], ◌∷◌, ◌++◌, length, get_or, take, map, drop, ap, sym, subst, ◌∙◌, arith}
+use Rattle.std.proofs.Common.{◌≡◌, ◌≢◌, ⊥, ℕ, suc, ◌+◌, ◌*◌, ◌<◌, ◌≤◌, None, Some, refl, true, false, true≢false, List, [], ◌∷◌, ◌++◌, length, get_or, take, map, drop, ap, sym, subst, ◌∙◌, arith}
 use Rattle.std.specs.List.{All, Contains}
 use Rattle.std.proofs.Math.Option.{some-injective}
 use Rattle.std.proofs.lemmas.List.{append-nil, drop_all}
@@ -21,14 +21,15 @@ use Rattle.phys_types.specs.declared.writing.Rest.{Rest}
 use Rattle.phys_types.specs.declared.writing.Rest.TheVariants.{Copies, Members}
 use Rattle.phys_types.specs.Shown.{IsStruct}
 use Rattle.phys_types.specs.Spots.{shifted, copies}
-use Rattle.phys_types.specs.Written.{member_spots, spots_at}
+use Rattle.phys_types.specs.declared.spot.Item.TheVariants.{Incomplete}
+use Rattle.phys_types.specs.Written.{one_spot, member_spots, spots_of_shape, spots_at}
 use Rattle.phys_types.specs.Writing.{rest_spots, all_rest, rest_type, IsRest, CanWrite, AreSeen, Writes, rest_weight, all_weights}
 use Rattle.phys_types.proofs.Loops.{copies_end}
 use Rattle.phys_types.proofs.Parts.{union_tag}
 use Rattle.phys_types.proofs.Structs.{holds_is}
 use Rattle.phys_types.proofs.WritingSteps.{put_off, one_copy, copies_part, members_part}
 use Rattle.phys_types.proofs.WritingWeights.{weights_push}
-use Rattle.phys_types.proofs.WrittenOut.{largest_one}
+use Rattle.phys_types.proofs.WrittenOut.{largest_one, spots_are}
 
 -- one part more is put off
 pub seen_more : (seen : List TypeId) (rest left : List Rest) (r : Rest) → AreSeen seen rest → Contains seen (rest_type r) → left ≡ rest ++ r ∷ [] → AreSeen seen left
@@ -171,3 +172,37 @@ first_written table E t = append-nil (map (shifted 0) (spots_at table E t)) ∙ 
     unmoved : (ss : List Spot) → map (shifted 0) ss ≡ ss
     unmoved [] = refl
     unmoved (s ∷ ss) = λ i. record { start = still s.start i; item = s.item } ∷ unmoved ss i
+
+-- ---- what isn't complete
+
+module _ (table : Table) (w : IsWellFormed table) (E : Relation) (t : TypeId) where
+  by_both : (s : TypeShape) (ms : List TypeId) → shape_at table t ≡ s → members_at table t ≡ ms → spots_at table E t ≡ spots_of_shape table E (spots_at table E) t s ms
+  by_both s ms e f = spots_are table w E t ∙ (λ i. spots_of_shape table E (spots_at table E) t (e i) (f i))
+
+  -- a struct or union without members is one spot
+  pub open_struct : (tag : ℕ) → shape_at table t ≡ Struct tag → is_complete_entry (shape_at table t) (members_at table t) ≡ false → spots_at table E t ≡ one_spot (Incomplete t)
+  open_struct tag e c = by (members_at table t) refl
+    where
+      by : (ms : List TypeId) → members_at table t ≡ ms → spots_at table E t ≡ one_spot (Incomplete t)
+      by [] f = by_both (Struct tag) [] e f
+      by (m ∷ ms) f = absurd (true≢false (sym (λ i. is_complete_entry (e i) (f i)) ∙ c))
+
+  pub open_union : (tag : ℕ) → shape_at table t ≡ Union tag → is_complete_entry (shape_at table t) (members_at table t) ≡ false → spots_at table E t ≡ one_spot (Incomplete t)
+  open_union tag e c = by (members_at table t) refl
+    where
+      by : (ms : List TypeId) → members_at table t ≡ ms → spots_at table E t ≡ one_spot (Incomplete t)
+      by [] f = by_both (Union tag) [] e f
+      by (m ∷ ms) f = absurd (true≢false (sym (λ i. is_complete_entry (e i) (f i)) ∙ c))
+
+  -- `void` and functions have none
+  pub open_none : is_complete_entry (shape_at table t) (members_at table t) ≡ false → ((tag : ℕ) → shape_at table t ≢ Struct tag) → ((tag : ℕ) → shape_at table t ≢ Union tag) → spots_at table E t ≡ []
+  open_none c r u = by (shape_at table t) refl
+    where
+      by : (s : TypeShape) → shape_at table t ≡ s → spots_at table E t ≡ []
+      by Void e = by_both Void (members_at table t) e refl
+      by (Function ps q) e = by_both (Function ps q) (members_at table t) e refl
+      by (Integer b s) e = absurd (true≢false (sym (ap (λ x. is_complete_entry x (members_at table t)) e) ∙ c))
+      by (Pointer node to) e = absurd (true≢false (sym (ap (λ x. is_complete_entry x (members_at table t)) e) ∙ c))
+      by (Array m n) e = absurd (true≢false (sym (ap (λ x. is_complete_entry x (members_at table t)) e) ∙ c))
+      by (Struct tag) e = absurd (r tag e)
+      by (Union tag) e = absurd (u tag e)

@@ -9,7 +9,8 @@ use std::alloc::Global;
 
 /// The lines of the kinds that were inferred of a text: one for each pointer type, and one for each home that is WILD.
 pub fn kinds(alloc: Global, inferred: &Inferred) -> Result<Vec<u8>, NoMemory>
-    requires { (text : List ℕ) × IsInferred text inferred.now.typed inferred.now.code inferred.now.solved }
+    requires { (text : List ℕ) × IsInferred text inferred.now.typed inferred.now.code
+        inferred.now.solved }
     ensures { IfOk result (λ lines. (text : List ℕ)
         → IsInferred text inferred.now.typed inferred.now.code inferred.now.solved → HasKinds text lines.items) }
 {

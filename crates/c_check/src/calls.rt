@@ -50,7 +50,8 @@ pub fn check(alloc: Global, unit: &Unit) -> Result<Typed, Fault>
     ensures only { IfOk result (λ t. (other : TypedTranslationUnit) → IsWellTyped t.types other
         → erased_unit other ≡ unit_view unit.now → other ≡ typed_unit_view t.unit) }
 
-    ensures nodes { IfOk result (λ t. t.nodes ≡ length (nodes_made (made_by_unit (typed_unit_view t.unit)))) }
+    ensures nodes { IfOk result (λ t. t.nodes ≡ length
+        (nodes_made (made_by_unit (typed_unit_view t.unit)))) }
     ensures printed { IfOk result (λ t. HasPrinted (typed_unit_view t.unit) t.printed) }
     ensures ordered { IfOk result (λ t. AreInOrder t.printed) }
     ensures limited { IfOk result (λ t. IsWithinLimits t.types (typed_unit_view t.unit)) }

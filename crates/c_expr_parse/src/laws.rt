@@ -35,24 +35,32 @@ pub fn initialisers_are_spelled_once()
 
 /// One answer about expressions is right, apart from the choice between a refusal and a stop at a depth before it.
 pub fn expressions_are_answered_once()
-    ensures one { (names : TypeNames) (least d : ℕ) (tokens : List Symbol) → least ≤ 14 → Each IsWritten tokens → OneIsRight (ExprAnswered names least d tokens) }
-    ensures shallow { (names : TypeNames) (least d : ℕ) (tokens : List Symbol) → least ≤ 14 → Each IsWritten tokens → ReadOrDeep (ExprAnswered names least d tokens) }
+    ensures one { (names : TypeNames) (least d : ℕ) (tokens : List Symbol) → least ≤ 14
+        → Each IsWritten tokens → OneIsRight (ExprAnswered names least d tokens) }
+    ensures shallow { (names : TypeNames) (least d : ℕ) (tokens : List Symbol) → least ≤ 14
+        → Each IsWritten tokens → ReadOrDeep (ExprAnswered names least d tokens) }
 {}
 
 /// One answer about specifiers is right, apart from the choice between a refusal and a stop at a depth before it.
 pub fn specifiers_are_answered_once()
-    ensures one { (names : TypeNames) (scope : Scope) (d : ℕ) (tokens : List Symbol) → Each IsWritten tokens → OneIsRight (SpecifiersAnswered names scope d tokens) }
-    ensures shallow { (names : TypeNames) (scope : Scope) (d : ℕ) (tokens : List Symbol) → Each IsWritten tokens → ReadOrDeep (SpecifiersAnswered names scope d tokens) }
+    ensures one { (names : TypeNames) (scope : Scope) (d : ℕ) (tokens : List Symbol)
+        → Each IsWritten tokens → OneIsRight (SpecifiersAnswered names scope d tokens) }
+    ensures shallow { (names : TypeNames) (scope : Scope) (d : ℕ) (tokens : List Symbol)
+        → Each IsWritten tokens → ReadOrDeep (SpecifiersAnswered names scope d tokens) }
 {}
 
 /// One answer about declarators is right, apart from the choice between a refusal and a stop at a depth before it.
 pub fn declarators_are_answered_once()
-    ensures one { (names : TypeNames) (naming : Naming) (d : ℕ) (tokens : List Symbol) → Each IsWritten tokens → OneIsRight (DeclaratorAnswered names naming d tokens) }
-    ensures shallow { (names : TypeNames) (naming : Naming) (d : ℕ) (tokens : List Symbol) → Each IsWritten tokens → ReadOrDeep (DeclaratorAnswered names naming d tokens) }
+    ensures one { (names : TypeNames) (naming : Naming) (d : ℕ) (tokens : List Symbol)
+        → Each IsWritten tokens → OneIsRight (DeclaratorAnswered names naming d tokens) }
+    ensures shallow { (names : TypeNames) (naming : Naming) (d : ℕ) (tokens : List Symbol)
+        → Each IsWritten tokens → ReadOrDeep (DeclaratorAnswered names naming d tokens) }
 {}
 
 /// One answer about initialisers is right, apart from the choice between a refusal and a stop at a depth before it.
 pub fn initialisers_are_answered_once()
-    ensures one { (names : TypeNames) (d : ℕ) (tokens : List Symbol) → Each IsWritten tokens → OneIsRight (InitialiserAnswered names d tokens) }
-    ensures shallow { (names : TypeNames) (d : ℕ) (tokens : List Symbol) → Each IsWritten tokens → ReadOrDeep (InitialiserAnswered names d tokens) }
+    ensures one { (names : TypeNames) (d : ℕ) (tokens : List Symbol) → Each IsWritten tokens
+        → OneIsRight (InitialiserAnswered names d tokens) }
+    ensures shallow { (names : TypeNames) (d : ℕ) (tokens : List Symbol) → Each IsWritten tokens
+        → ReadOrDeep (InitialiserAnswered names d tokens) }
 {}

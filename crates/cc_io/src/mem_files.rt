@@ -66,9 +66,11 @@ impl Files for MemFiles {
 
     fn read_file(&mut self, name: &str, limit: u64, into: &mut Vec<u8>) -> Result<(), FileFault>
         requires { into.old.items ≡ [] }
-        ensures whole { OnOk result (IfSome (file_of self.old.files name.now) (λ bytes. into.new.items ≡ bytes)) }
+        ensures whole { OnOk result (IfSome (file_of self.old.files name.now)
+            (λ bytes. into.new.items ≡ bytes)) }
         ensures within_limit { OnOk result (vec_len into.new ≤ limit) }
-        ensures too_large { IsErrOf result FileFault.TooLarge → IfSome (file_of self.old.files name.now) (λ bytes. limit < length bytes) }
+        ensures too_large { IsErrOf result FileFault.TooLarge → IfSome
+            (file_of self.old.files name.now) (λ bytes. limit < length bytes) }
         ensures emptied { OnErr result (into.new.items ≡ []) }
         ensures failed { IsErrOf result FileFault.Failed → Rose self.old.faults self.new.faults }
         ensures last { self.new.last ≡ last_after result name.now self.old.last }

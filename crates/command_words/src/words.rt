@@ -29,7 +29,8 @@ pub fn command_of(words: &[String]) -> Option<Command<'_>>
 
 /// What the first word asks for with those behind it.
 fn asked_by<'a>(first: &str, words: &'a [String]) -> Option<Command<'a>>
-    ensures command { option_map command_view result ≡ asked_by first.now (map string_bytes words.now) }
+    ensures command { option_map command_view result
+        ≡ asked_by first.now (map string_bytes words.now) }
     ensures few { IfSome result HasFewFunctions }
 {
     match first {

@@ -75,7 +75,8 @@ fn is_node_below(parents: &[u32], a: u64, n: u32) -> bool
 /// The function at an address, where there is one and it has signature `sig`.
 #[inline(always)]
 pub(crate) fn function_of(functions: &[Function], sig: u32, address: u64) -> Option<usize>
-    ensures { result ≡ function_of_sig functions.now sig (function_at (length functions.now) address) }
+    ensures { result ≡ function_of_sig functions.now sig
+        (function_at (length functions.now) address) }
 {
     match function_number(functions.len(), address) {
         None => None,
@@ -128,7 +129,8 @@ pub(crate) fn frame_fits(
 /// Whether a function is at the address, and its frame may be pushed.
 fn has_room(functions: &[Function], frames: &[FramePlan], flat: &Flat, address: u64) -> bool
     requires { frames.now ≡ map frame_areas functions.now }
-    ensures { result ≡ has_room_in functions.now (function_at (length functions.now) address) flat.now }
+    ensures { result ≡ has_room_in functions.now
+        (function_at (length functions.now) address) flat.now }
 {
     match function_number(functions.len(), address) {
         None => false,

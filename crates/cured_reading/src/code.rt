@@ -70,7 +70,8 @@ pub(crate) fn part(
     alloc: Global,
 ) -> Result<Code, Wrong>
     requires { IsFew names.now }
-    ensures spelled { IfOk result (λ code. lines.old.text ≡ flat_map line_text (code_lines code.0.items) ++ (line_text (closing_line closing) ++ lines.new.text)) }
+    ensures spelled { IfOk result (λ code. lines.old.text ≡ flat_map line_text
+        (code_lines code.0.items) ++ (line_text (closing_line closing) ++ lines.new.text)) }
     ensures shorter { OnOk result (length lines.new.text < length lines.old.text) }
     ensures kept { IfOk result (λ code. AreInstrsInRange names.now code.0.items) }
     ensures read { OnOk result ((parts : List Outer) (rest : List Scope)
@@ -115,7 +116,8 @@ fn branch(
     alloc: Global,
 ) -> Result<Instr, Wrong>
     requires { IsFew names.now }
-    ensures spelled { IfOk result (λ i. codes "if" ++ (fields.old ++ (10 ∷ lines.old.text)) ≡ flat_map line_text (lines_of i) ++ lines.new.text) }
+    ensures spelled { IfOk result (λ i. codes "if" ++ (fields.old ++ (10 ∷ lines.old.text))
+        ≡ flat_map line_text (lines_of i) ++ lines.new.text) }
     ensures shorter { OnOk result (length lines.new.text ≤ length lines.old.text) }
     ensures kept { IfOk result (λ i. IsInstrInRange names.now i) }
     ensures read { OnOk result ((before : Place) (closing : AnyClosing) (parts : List Outer) (rest : List Scope)
@@ -145,7 +147,8 @@ fn branch(
 fn held(lines: &mut Lines, names: &Names, fields: &Fields, alloc: Global) -> Result<Code, Wrong>
     requires { IsFew names.now }
     ensures fields { OnOk result (fields.now ≡ []) }
-    ensures spelled { IfOk result (λ code. lines.old.text ≡ flat_map line_text (code_lines code.0.items) ++ (line_text end_line ++ lines.new.text)) }
+    ensures spelled { IfOk result (λ code. lines.old.text ≡ flat_map line_text
+        (code_lines code.0.items) ++ (line_text end_line ++ lines.new.text)) }
     ensures shorter { OnOk result (length lines.new.text ≤ length lines.old.text) }
     ensures nest { OnOk result (names.now.nest < flat_nest_limit) }
     ensures kept { IfOk result (λ code. AreInstrsInRange (inside_block names.now) code.0.items) }

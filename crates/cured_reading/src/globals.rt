@@ -81,7 +81,8 @@ fn fits(area: AreaLine, first: &[u8]) -> bool
 
 /// The line of a global, of at most so many bytes.
 fn global(lines: &mut Lines, left: u64, alloc: Global) -> Result<GlobalLine, Wrong>
-    ensures spelled { IfOk result (λ global. lines.old.text ≡ line_text (area_line global) ++ lines.new.text) }
+    ensures spelled { IfOk result (λ global. lines.old.text
+        ≡ line_text (area_line global) ++ lines.new.text) }
     ensures few { IfOk result (λ global. global.area.bytes ≤ left) }
     ensures kept { IfOk result (λ global. IsGlobalInRange global) }
     ensures read { IfOk result (λ global. (k : ℕ) (sigs : List AnySig) (nodes : ℕ) → 0 < k
@@ -109,9 +110,11 @@ fn global(lines: &mut Lines, left: u64, alloc: Global) -> Result<GlobalLine, Wro
 
 /// The globals.
 pub(crate) fn globals(lines: &mut Lines, alloc: Global) -> Result<Vec<GlobalLine>, Wrong>
-    ensures spelled { IfOk result (λ globals. lines.old.text ≡ flat_map line_text (counted (codes "globals") area_line globals.items) ++ lines.new.text) }
+    ensures spelled { IfOk result (λ globals. lines.old.text ≡ flat_map line_text
+        (counted (codes "globals") area_line globals.items) ++ lines.new.text) }
     ensures few { IfOk result (λ globals. length globals.items ≤ flat_globals_limit) }
-    ensures bytes { IfOk result (λ globals. sum_by (λ g. g.area.bytes) globals.items ≤ global_bytes_limit) }
+    ensures bytes { IfOk result (λ globals. sum_by
+        (λ g. g.area.bytes) globals.items ≤ global_bytes_limit) }
     ensures kept { IfOk result (λ globals. All IsGlobalInRange globals.items) }
     ensures read { OnOk result ((sigs : List AnySig) (nodes : ℕ)
         → (left : ℕ) × AreRead (MoreNodes 0 sigs nodes) lines.old (MoreGlobals 0 left sigs nodes) lines.new) }

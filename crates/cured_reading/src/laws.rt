@@ -16,5 +16,6 @@ pub fn a_spelling_has_no_fault()
 
 /// A text has one fault at most.
 pub fn a_text_has_one_fault()
-    ensures { (text : List ℕ) (one other : CuredFault) → IsUncured text one → IsUncured text other → one ≡ other }
+    ensures { (text : List ℕ) (one other : CuredFault) → IsUncured text one → IsUncured text other
+        → one ≡ other }
 {}

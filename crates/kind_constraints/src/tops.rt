@@ -88,7 +88,8 @@ fn add_flow_tops(
 fn add_other_top(asked: &Asked, found: &mut Found, site: Site) -> Result<(), NoMemory>
     requires asked { IsReady asked.now }
     requires shaped { (nodes : ℕ) × IsSiteInShape asked.now.types.now nodes site }
-    requires same { (t u : TypeId) → site ≡ Same t u → IsTrue (physically_equal asked.now.types.now t u) }
+    requires same { (t u : TypeId) → site ≡ Same t u
+        → IsTrue (physically_equal asked.now.types.now t u) }
     ensures { OnOk result (Gains (IsOtherTop asked.now.types.now site) found.old found.new) }
 {
     match site {

@@ -37,7 +37,8 @@ fn pointer_label(kinds: &Kinds, numbers: &[usize], node: NodeId, to: TypeId) -> 
 
 fn item_label(kinds: &Kinds, numbers: &[usize], item: Item) -> usize
     requires { HasNode (length kinds.now) item }
-    ensures { result ≡ pointer_label (kind_at kinds.now) (number_in numbers.now) (pointer_of_item item) }
+    ensures { result ≡ pointer_label (kind_at kinds.now) (number_in numbers.now)
+        (pointer_of_item item) }
 {
     match item {
         Item::Pointer(node, to) => pointer_label(kinds, numbers, node, to),
@@ -48,7 +49,8 @@ fn item_label(kinds: &Kinds, numbers: &[usize], item: Item) -> usize
 /// What is seen of the pointers at spots, in order.
 fn spots_label(kinds: &Kinds, numbers: &[usize], spots: &[Spot]) -> usize
     requires { All (λ s. HasNode (length kinds.now) s.item) spots.now }
-    ensures { result ≡ mixed_all 0 (spot_label (kind_at kinds.now) (number_in numbers.now)) spots.now }
+    ensures { result ≡ mixed_all 0 (spot_label (kind_at kinds.now) (number_in numbers.now))
+        spots.now }
 {
     let mut label = 0;
     'spots: for spot in spots {

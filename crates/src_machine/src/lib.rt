@@ -100,8 +100,11 @@ pub fn recursion_is_stopped()
 /// one function the first is tied to each of the others. In
 /// `int main(void){{typedef int g(int *);}{typedef char *g(void);}return 0;}` two typedefs of one name in two blocks tie nothing.
 pub fn sites_of_a_program()
-    ensures redeclared { sites_of redeclared_program redeclared_table ≡ Pointee (node 0) int ∷ Pointee (node 1) int ∷ Pointee (node 2) int ∷ Same (type 10) (type 12) ∷ Same (type 10) (type 14) ∷ [] }
-    ensures block_typedefs { sites_of block_typedefs block_typedefs_table ≡ Pointee (node 0) int ∷ Pointee (node 1) char ∷ [] }
+    ensures redeclared { sites_of redeclared_program redeclared_table
+        ≡ Pointee (node 0) int ∷ Pointee (node 1) int ∷ Pointee (node 2) int ∷ Same (type 10)
+        (type 12) ∷ Same (type 10) (type 14) ∷ [] }
+    ensures block_typedefs { sites_of block_typedefs block_typedefs_table
+        ≡ Pointee (node 0) int ∷ Pointee (node 1) char ∷ [] }
     ensures hidden { sites_of hidden_program hidden_table ≡ Pointee (node 0) char ∷ [] }
     ensures address { sites_of address_program address_table ≡ Pointee (node 0) int ∷ Pointee (node 3) int ∷ Home (node 1) (type 9)
         ∷ Home (node 2) int ∷ Linked (node 3) (node 2) ∷ Flow (node 3) int (node 0) int (at 30) ∷ [] }

@@ -8,9 +8,7 @@ use Rattle.std.proofs.lemmas.Option.{slice_get_within}
 use Rattle.cc_base.specs.declared.kind.Kind.{Kind}
 use Rattle.cc_base.specs.declared.kind.Kind.TheVariants.{Safe, Seq, Rtti, Wild}
 use Rattle.cc_base.specs.declared.number.TypeId.{TypeId}
-use Rattle.c_types.specs.Flows.{IsOfOneClass}
 use Rattle.c_types.specs.Sound.{IsWellFormed}
-use Rattle.type_laws.proofs.Pointers.{class_turned}
 use Rattle.integers.specs.Words.{word, truth_word}
 use Rattle.src_mem.specs.Pointers.{Location, Pointer, Null, Number, At, Function, same_pointer, same_part}
 use Rattle.src_mem.specs.State as source
@@ -21,7 +19,6 @@ use Rattle.src_mem.specs.Facts.{IsHeldIn, IsSafeAt, IsSequenceAt, IsFunctionOf}
 use Rattle.src_mem.proofs.Outlines.{has-outline}
 use Rattle.facts_kept.proofs.Agree.{first, second}
 use Rattle.facts_kept.proofs.Holds.{seq-stands}
-use Rattle.facts_kept.proofs.Places.{value-class}
 use Rattle.cured_code.specs.FlatState as flat
 use Rattle.sim_relation.specs.Ground.{Ground, place, natural, function_word, first_word, second_word}
 use Rattle.sim_relation.specs.Related.{Related, ground_of}
@@ -31,7 +28,7 @@ use Rattle.sim_checks.proofs.Addresses.{there}
 use Rattle.sim_checks.proofs.Sameness.{IsSpot, same-place, bool-same, eq-true, true-eq, eq-false}
 use Rattle.sim_memory.proofs.Finding.{sequence-here}
 use Rattle.cure_rules.specs.Setting.{is_wide_kind}
-use Rattle.sim_laws.specs.Plain.{IsPlainKind}
+use Rattle.sim_laws.specs.Plain.{IsPlainKind, AreAlikeWhereSized}
 use Rattle.sim_laws.proofs.Comparisons.{int-same}
 use Rattle.sim_laws.proofs.Ordering.{int-is, AreAlike, alike, words-same}
 
@@ -194,9 +191,9 @@ module _ (w : Setting) (number_of : TypeId → ℕ) (s : source.State) (c : flat
       number m n e = cc (e)
 
   -- two of one part
-  parts-alike : (t u : TypeId) (a b : Location) → IsOfOneClass w.table w.kind t u → IsHeldIn w s.memory depth Seq t (At a) → IsHeldIn w s.memory depth Seq u (At b)
+  parts-alike : (t u : TypeId) (a b : Location) → AreAlikeWhereSized w.table w.kind t u → IsHeldIn w s.memory depth Seq t (At a) → IsHeldIn w s.memory depth Seq u (At b)
       → ((a.object == b.object) && same_part a.part b.part) ≡ true → nat_eq (first_word g Seq (At a)) (first_word g Seq (At b)) ≡ same_pointer (At a) (At b)
-  parts-alike t u a b class x y one = of x.value (value-class w sound (outlines_of s.memory) Seq u t (At b) (class_turned w.table w.kind t u class) y.value)
+  parts-alike t u a b class x y one = of x.value y.value
     where
       object : a.object ≡ b.object
       object = true-eq a.object b.object (first _ _ one)
@@ -207,13 +204,13 @@ module _ (w : Setting) (number_of : TypeId → ℕ) (s : source.State) (c : flat
       start : place g b.object b.part.low ≡ place g a.object a.part.low
       start = ap (λ (n : ℕ). place g n b.part.low) (sym object) ∙ ap (place g a.object) (sym low)
 
-      of : IsSequenceAt w (outlines_of s.memory) t a → IsSequenceAt w (outlines_of s.memory) t b → nat_eq (first_word g Seq (At a)) (first_word g Seq (At b)) ≡ same_pointer (At a) (At b)
-      of v z = with_distances (alike w sound (outlines_of s.memory) t a b v z low)
+      of : IsSequenceAt w (outlines_of s.memory) t a → IsSequenceAt w (outlines_of s.memory) u b → nat_eq (first_word g Seq (At a)) (first_word g Seq (At b)) ≡ same_pointer (At a) (At b)
+      of v z = with_distances (alike w sound (outlines_of s.memory) t u class a b v z low)
         where
           small : place g a.object a.part.low < 2 ^ 33
           small = let h = (there w number_of s c r depth a.object a.part.low v.object v.located.found x.reaches v.typed.untagged).below in omega (arith, h)
 
-          with_distances : AreAlike w sound (outlines_of s.memory) t a b → nat_eq (first_word g Seq (At a)) (first_word g Seq (At b)) ≡ same_pointer (At a) (At b)
+          with_distances : AreAlike w a b → nat_eq (first_word g Seq (At a)) (first_word g Seq (At b)) ≡ same_pointer (At a) (At b)
           with_distances d =
               ap (λ (z : ℤ). nat_eq (word (pos (place g a.object a.part.low) +ℤ z)) (first_word g Seq (At b))) d.is_k.is
               ∙ ap (λ (z : ℤ). nat_eq (word (pos (place g a.object a.part.low) +ℤ d.far_k)) (word (pos (place g b.object b.part.low) +ℤ z))) d.is_l.is
@@ -223,12 +220,12 @@ module _ (w : Setting) (number_of : TypeId → ℕ) (s : source.State) (c : flat
 
   -- Of one part, or both within theirs
 
-  objects-alike : (k o : Kind) → IsPlainKind k → IsPlainKind o → (t u : TypeId) (a b : Location) → (k ≡ Seq → o ≡ Seq → IsOfOneClass w.table w.kind t u)
+  objects-alike : (k o : Kind) → IsPlainKind k → IsPlainKind o → (t u : TypeId) (a b : Location) → (k ≡ Seq → o ≡ Seq → AreAlikeWhereSized w.table w.kind t u)
       → IsHeldIn w s.memory depth k t (At a) → IsHeldIn w s.memory depth o u (At b) → holds w s.memory (AreComparable (used k (At a)) (used o (At b))) ≡ true
       → nat_eq (first_word g k (At a)) (first_word g o (At b)) ≡ same_pointer (At a) (At b)
   objects-alike k o pk po t u a b class x y may = by (of_one_part (used k (At a)) (used o (At b))) refl may
     where
-      together : (k o : Kind) → (k ≡ Seq → o ≡ Seq → IsOfOneClass w.table w.kind t u) → IsPlainKind k → IsPlainKind o → IsHeldIn w s.memory depth k t (At a)
+      together : (k o : Kind) → (k ≡ Seq → o ≡ Seq → AreAlikeWhereSized w.table w.kind t u) → IsPlainKind k → IsPlainKind o → IsHeldIn w s.memory depth k t (At a)
           → IsHeldIn w s.memory depth o u (At b) → of_one_part (used k (At a)) (used o (At b)) ≡ true
           → nat_eq (first_word g k (At a)) (first_word g o (At b)) ≡ same_pointer (At a) (At b)
       together Seq Seq class pk po x y e = parts-alike t u a b (class refl refl) x y e
@@ -255,7 +252,7 @@ module _ (w : Setting) (number_of : TypeId → ℕ) (s : source.State) (c : flat
   positive n h e = omega (arith, h, e)
 
   -- THE WORDS OF EQUAL POINTERS
-  pub equal-alike : (k o : Kind) → IsPlainKind k → IsPlainKind o → (t u : TypeId) (q z : Pointer) → (k ≡ Seq → o ≡ Seq → IsOfOneClass w.table w.kind t u)
+  pub equal-alike : (k o : Kind) → IsPlainKind k → IsPlainKind o → (t u : TypeId) (q z : Pointer) → (k ≡ Seq → o ≡ Seq → AreAlikeWhereSized w.table w.kind t u)
       → IsHeldIn w s.memory depth k t q → IsHeldIn w s.memory depth o u z → holds w s.memory (AreComparable (used k q) (used o z)) ≡ true
       → says_equal (is_wide_kind k || is_wide_kind o) (home_word g k q) (home_word g o z) (first_word g k q) (first_word g o z) ≡ same_pointer q z
   equal-alike k o pk po t u Null Null class x y may =

@@ -1,5 +1,6 @@
--- Two SEQ pointers of one part, to types of one class: their words are equal, ordered and so many elements apart as their offsets are.
-use Rattle.std.proofs.Common.{◌≡◌, ℕ, ◌+◌, ◌-◌, ◌*◌, ◌%◌, ◌^◌, ◌<◌, ◌≤◌, ◌⊎◌, ⊎_elim, ℤ, pos, ◌+ℤ◌, ◌-ℤ◌, ◌<ℤ◌, ◌≤ℤ◌, Bool, true, false, not, List, length, nat_eq, refl, ap, sym, ◌∙◌, arith, if◌then◌else◌}
+-- Two SEQ pointers of one part, to types of one class or to what has no size: their words are equal, ordered and so many elements apart as
+-- their offsets are.
+use Rattle.std.proofs.Common.{◌≡◌, ℕ, ◌+◌, ◌-◌, ◌*◌, ◌%◌, ◌^◌, ◌<◌, ◌≤◌, ◌⊎◌, ⊎_elim, ℤ, pos, ◌+ℤ◌, ◌-ℤ◌, ◌<ℤ◌, ◌≤ℤ◌, Bool, true, false, not, List, length, nat_eq, refl, ap, sym, ◌∙◌, arith}
 use Rattle.std.specs.Prelude.{int_lt, int_le, slice_index_or, ◌*ℤ◌}
 use Rattle.std.specs.Ordering.{int_eq}
 use Rattle.std.proofs.lemmas.Int.{ints}
@@ -16,7 +17,7 @@ use Rattle.c_types.specs.Widths as widths_of
 use Rattle.c_types.specs.Widths.{cell_width, before, stair, cured_distance}
 use Rattle.type_laws.proofs.OneClass.{move-alike}
 use Rattle.type_laws.proofs.Pointers.{class_turned}
-use Rattle.type_laws.proofs.Stairs.{HasSteps, IsWithin, Splits, splits, stair-is, stair-step, stair-suc, stair-mono, stair-within, same_le}
+use Rattle.type_laws.proofs.Stairs.{HasSteps, IsWithin, Splits, splits, stair-is, stair-step, stair-suc, stair-mono, stair-within, stair-zero, same_le}
 use Rattle.integers.specs.Words.{word, residue}
 use Rattle.integers.specs.Operators.{signed}
 use Rattle.integers.proofs.SignedLaws.{signed-word}
@@ -25,13 +26,16 @@ use Rattle.src_mem.specs.Pointers.{Location, distance}
 use Rattle.src_mem.specs.State.{Setting}
 use Rattle.src_mem.specs.Outlines.{Outline}
 use Rattle.src_mem.specs.Facts.{IsSequenceAt, IsSameShifted}
+use Rattle.facts_kept.proofs.Blocks.{shifted-none}
 use Rattle.cil_facts.proofs.Homes.{complete-along}
 use Rattle.sim_relation.proofs.Bounds.{distance-is, step_of, cell-steps, agree-width, width-most, widths}
 use Rattle.sim_checks.proofs.Distances.{times-sum}
 use Rattle.sim_checks.proofs.Sequences.{long, ends}
 use Rattle.sim_checks.proofs.Sameness.{bool-same, eq-true, true-eq}
 use Rattle.sim_checks.proofs.Standing.{near-small}
+use Rattle.sim_laws.specs.Plain.{AreAlikeWhereSized}
 use Rattle.sim_laws.proofs.Comparisons.{int-same}
+use Rattle.sim_laws.proofs.Tiles.{still}
 
 -- Integers
 
@@ -57,6 +61,9 @@ kept-less x y a b f g = less-is x y ∙ ap not (same_le y x b a f g) ∙ sym (le
 kept-equal : (x y a b : ℤ) → (x <ℤ y → a <ℤ b) → (y <ℤ x → b <ℤ a) → (x ≡ y → a ≡ b) → int_eq x y ≡ int_eq a b
 kept-equal x y a b f g h = bool-same (int_eq x y) (int_eq a b) (λ e. int-same a b (h (int-is x y e)))
     (λ e. ⊎_elim (λ l. absurd (less-not a b (f l) (int-is a b e))) (λ r. ⊎_elim (λ l. absurd (less-not b a (g l) (sym (int-is a b e)))) (λ s. int-same x y s) r) (case x y))
+
+equal-turned : (x y : ℤ) → int_eq x y ≡ int_eq y x
+equal-turned x y = bool-same (int_eq x y) (int_eq y x) (λ e. int-same y x (sym (int-is x y e))) (λ e. int-same x y (sym (int-is y x e)))
 
 -- so many elements further, once cured
 pub stair-moved : (f : ℕ → ℕ) (n m : ℕ) → 0 < n → (z k : ℤ) → stair f n m (z +ℤ k *ℤ pos n) ≡ stair f n m z +ℤ k *ℤ pos m
@@ -140,81 +147,110 @@ pub record IsFar (w : Setting) (l : Location) (far : ℤ) : Type 0 where
   pub is : cured_distance w.table w.kind l.made (distance l) ≡ far
   pub near : IsWithin far (2 ^ 60)
 
-module _ (w : Setting) (sound : IsWellFormed w.table) (outlines : List Outline) (t : TypeId) where
-  -- of elements that have a size
-  pub far-whole : (complete : IsComplete w.table t) (l : Location) → IsSequenceAt w outlines t l → IsFar w l (widths w.kind (cells_of w.table t) (distance l))
-  far-whole complete l v = record {
+-- two of them are so far that they are ordered as their offsets are, and equal where these are
+pub record AreAlike (w : Setting) (k l : Location) : Type 0 where
+  pub far_k : ℤ
+  pub far_l : ℤ
+  pub is_k : IsFar w k far_k
+  pub is_l : IsFar w l far_l
+  pub less : int_lt far_k far_l ≡ int_lt k.offset l.offset
+  pub more : int_lt far_l far_k ≡ int_lt l.offset k.offset
+  pub same : int_eq far_k far_l ≡ int_eq k.offset l.offset
+
+alike-turned : (w : Setting) (k l : Location) → AreAlike w k l → AreAlike w l k
+alike-turned w k l h = record {
+  far_k = h.far_l;
+  far_l = h.far_k;
+  is_k = h.is_l;
+  is_l = h.is_k;
+  less = h.more;
+  more = h.less;
+  same = equal-turned h.far_l h.far_k ∙ h.same ∙ equal-turned k.offset l.offset;
+}
+
+-- distances from one byte that are kept in order
+alike-by : (w : Setting) (k l : Location) (x y : ℤ) → IsFar w k x → IsFar w l y → k.part.low ≡ l.part.low → (distance k <ℤ distance l → x <ℤ y)
+    → (distance l <ℤ distance k → y <ℤ x) → (distance k ≡ distance l → x ≡ y) → AreAlike w k l
+alike-by w k l x y is_k is_l low less more same = record {
+  far_k = x;
+  far_l = y;
+  is_k = is_k;
+  is_l = is_l;
+  less = sym (kept-less (distance k) (distance l) x y (at-most (distance k) (distance l) x y more same) less) ∙ lower k.offset l.offset k.part.low l.part.low low;
+  more = sym (kept-less (distance l) (distance k) y x (at-most (distance l) (distance k) y x less (λ h. sym (same (sym h)))) more)
+      ∙ lower l.offset k.offset l.part.low k.part.low (sym low);
+  same = sym (kept-equal (distance k) (distance l) x y less more same) ∙ equal k.offset l.offset k.part.low l.part.low low;
+}
+  where
+    at-most : (a b x y : ℤ) → (b <ℤ a → y <ℤ x) → (a ≡ b → x ≡ y) → b ≤ℤ a → y ≤ℤ x
+    at-most a b x y less same h = ⊎_elim (λ l. absurd (omega (arith, ints, h, l)))
+        (λ r. ⊎_elim (λ l. let e = less l in omega (arith, ints, e)) (λ e. let f = same e in omega (arith, ints, f)) r) (case a b)
+
+    lower : (x y : ℤ) (a b : ℕ) → a ≡ b → int_lt (x -ℤ pos a) (y -ℤ pos b) ≡ int_lt x y
+    lower x y a b e = kept-less (x -ℤ pos a) (y -ℤ pos b) x y (λ h. omega (arith, ints, h, e)) (λ h. omega (arith, ints, h, e))
+
+    equal : (x y : ℤ) (a b : ℕ) → a ≡ b → int_eq (x -ℤ pos a) (y -ℤ pos b) ≡ int_eq x y
+    equal x y a b e = kept-equal (x -ℤ pos a) (y -ℤ pos b) x y (λ h. omega (arith, ints, h, e)) (λ h. omega (arith, ints, h, e)) (λ h. omega (arith, ints, h, e))
+
+module _ (w : Setting) (sound : IsWellFormed w.table) (outlines : List Outline) where
+  -- to what has a size
+  pub far-whole : (t : TypeId) (complete : IsComplete w.table t) (l : Location) → IsSequenceAt w outlines t l → IsFar w l (widths w.kind (cells_of w.table t) (distance l))
+  far-whole t complete l v = record {
     is = made-distance w sound t complete l.made v.made (distance l);
     near = distances-within w sound t complete (distance l) (let a = v.least in let b = v.most in record { low = omega (arith, ints, a); high = omega (arith, ints, b) });
   }
 
-  -- and of such as have none
-  far-none : is_complete (entry_at w.table t) ≡ false → (l : Location) → IsSequenceAt w outlines t l → IsFar w l (pos 0)
-  far-none none l v = record { is = by (is_complete (entry_at w.table l.made)) refl; near = record { low = omega (arith, ints); high = omega (arith, ints) } }
+  -- and to what has none: it stands where its part begins
+  far-none : (t : TypeId) → is_complete (entry_at w.table t) ≡ false → (l : Location) → IsSequenceAt w outlines t l → IsFar w l (pos 0) × (distance l ≡ pos 0)
+  far-none t none l v = (
+    record { is = by (is_complete (entry_at w.table l.made)) refl; near = record { low = omega (arith, ints); high = omega (arith, ints) } },
+    (v.unmoved (λ h. cc (h, none))).1,
+  )
     where
       by : (b : Bool) → is_complete (entry_at w.table l.made) ≡ b → cured_distance w.table w.kind l.made (distance l) ≡ pos 0
       by true f = absurd (let h = complete-along w sound l.made t v.made f in cc (h, none))
-      by false f = ap (λ (q : Bool). if q then stair (before w.kind (cells_of w.table l.made)) (size_of w.table l.made) (widths_of.cured_size w.table w.kind l.made)
-          (distance l) else pos 0) f
+      by false f = still w l.made f (distance l)
 
-  -- two of them, in parts that begin at one byte
-  pub record AreAlike (k l : Location) : Type 0 where
-    pub far_k : ℤ
-    pub far_l : ℤ
-    pub is_k : IsFar w k far_k
-    pub is_l : IsFar w l far_l
-    pub less : int_lt far_k far_l ≡ int_lt k.offset l.offset
-    pub more : int_lt far_l far_k ≡ int_lt l.offset k.offset
-    pub same : int_eq far_k far_l ≡ int_eq k.offset l.offset
-
-  pub alike : (k l : Location) → IsSequenceAt w outlines t k → IsSequenceAt w outlines t l → k.part.low ≡ l.part.low → AreAlike k l
-  alike k l v u low = by (is_complete (entry_at w.table t)) refl
+  -- to types that have sizes and are of one class
+  sized-alike : (t u : TypeId) → IsComplete w.table t → IsComplete w.table u → IsOfOneClass w.table w.kind t u → (k l : Location) → IsSequenceAt w outlines t k
+      → IsSequenceAt w outlines u l → k.part.low ≡ l.part.low → AreAlike w k l
+  sized-alike t u ct cu class k l v z low = alike-by w k l (widths w.kind (cells_of w.table t) (distance k)) (widths w.kind (cells_of w.table u) (distance l)) (far-whole t ct k v) (far-whole u cu l z) low
+      (λ h. let e = moves (distance k) in let f = distances-less w sound u cu (distance k) (distance l) (z.shifted cu) h in omega (arith, ints, e, f))
+      (λ h. let e = moves (distance l) in let f = distances-less w sound t ct (distance l) (distance k) (v.shifted ct) h in omega (arith, ints, e, f))
+      (λ h. moves (distance k) ∙ ap (widths w.kind (cells_of w.table u)) h)
     where
-      -- distances are as offsets
-      lower : (x y : ℤ) (a b : ℕ) → a ≡ b → int_lt (x -ℤ pos a) (y -ℤ pos b) ≡ int_lt x y
-      lower x y a b e = kept-less (x -ℤ pos a) (y -ℤ pos b) x y (λ h. omega (arith, ints, h, e)) (λ h. omega (arith, ints, h, e))
+      moves : (d : ℤ) → widths w.kind (cells_of w.table t) d ≡ widths w.kind (cells_of w.table u) d
+      moves d = sym (distance-is w.table w.kind t ct (long w sound t ct) d) ∙ made-distance w sound u cu t class d
 
-      equal : (x y : ℤ) (a b : ℕ) → a ≡ b → int_eq (x -ℤ pos a) (y -ℤ pos b) ≡ int_eq x y
-      equal x y a b e = kept-equal (x -ℤ pos a) (y -ℤ pos b) x y (λ h. omega (arith, ints, h, e)) (λ h. omega (arith, ints, h, e)) (λ h. omega (arith, ints, h, e))
+  -- the first to what has no size
+  none-alike : (t u : TypeId) → is_complete (entry_at w.table t) ≡ false → IsComplete w.table u → (k l : Location) → IsSequenceAt w outlines t k → IsSequenceAt w outlines u l
+      → k.part.low ≡ l.part.low → AreAlike w k l
+  none-alike t u none cu k l v z low = alike-by w k l (pos 0) (widths w.kind (cells_of w.table u) (distance l)) start.0 (far-whole u cu l z) low
+      (λ h. let e = start.1 in
+      let f = distances-less w sound u cu (pos 0) (distance l) (z.shifted cu) (omega (arith, ints, h, e)) in let s = begin in omega (arith, ints, f, s))
+      (λ h. let e = start.1 in
+      let f = distances-less w sound u cu (distance l) (pos 0) (shifted-none w sound u cu) (omega (arith, ints, h, e)) in let s = begin in omega (arith, ints, f, s))
+      (λ h. sym (ap (widths w.kind (cells_of w.table u)) (sym h ∙ start.1) ∙ begin))
+    where
+      start : IsFar w k (pos 0) × (distance k ≡ pos 0)
+      start = far-none t none k v
 
-      full : IsComplete w.table t → AreAlike k l
-      full complete = record {
-        far_k = W k;
-        far_l = W l;
-        is_k = far-whole complete k v;
-        is_l = far-whole complete l u;
-        less = sym (ordered k l (v.shifted complete) (u.shifted complete)) ∙ lower k.offset l.offset k.part.low l.part.low low;
-        more = sym (ordered l k (u.shifted complete) (v.shifted complete)) ∙ lower l.offset k.offset l.part.low k.part.low (sym low);
-        same = sym (kept-equal (distance k) (distance l) (W k) (W l) (λ h. distances-less w sound t complete (distance k) (distance l) (u.shifted complete) h)
-            (λ h. distances-less w sound t complete (distance l) (distance k) (v.shifted complete) h) (λ h. ap (widths w.kind (cells_of w.table t)) h))
-            ∙ equal k.offset l.offset k.part.low l.part.low low;
-      }
-        where
-          W : Location → ℤ
-          W x = widths w.kind (cells_of w.table t) (distance x)
+      begin : widths w.kind (cells_of w.table u) (pos 0) ≡ pos 0
+      begin = stair-zero (before w.kind (cells_of w.table u)) (step_of w.kind (cells_of w.table u)) (length (cells_of w.table u)) (steps w sound u cu)
 
-          ordered : (x y : Location) → IsSameShifted w t (distance x) → IsSameShifted w t (distance y)
-              → int_lt (distance x) (distance y) ≡ int_lt (widths w.kind (cells_of w.table t) (distance x)) (widths w.kind (cells_of w.table t) (distance y))
-          ordered x y sx sy = kept-less (distance x) (distance y) (widths w.kind (cells_of w.table t) (distance x)) (widths w.kind (cells_of w.table t) (distance y))
-              (λ h. stair-mono (before w.kind (cells_of w.table t)) (step_of w.kind (cells_of w.table t)) (length (cells_of w.table t))
-              (cell-steps w.kind (cells_of w.table t) (ends w sound t complete).some) (distance y) (distance x) h)
-              (λ h. distances-less w sound t complete (distance x) (distance y) sy h)
-
-      none : is_complete (entry_at w.table t) ≡ false → AreAlike k l
-      none f =
-          let start = (v.unmoved (λ h. cc (h, f))).1 in let begin = (u.unmoved (λ h. cc (h, f))).1 in record {
-            far_k = pos 0;
-            far_l = pos 0;
-            is_k = far-none f k v;
-            is_l = far-none f l u;
-            less = sym (sym (lower k.offset l.offset k.part.low l.part.low low) ∙ ap (λ (z : ℤ). int_lt z (distance l)) start ∙ ap (int_lt (pos 0)) begin);
-            more = sym (sym (lower l.offset k.offset l.part.low k.part.low (sym low)) ∙ ap (λ (z : ℤ). int_lt z (distance k)) begin ∙ ap (int_lt (pos 0)) start);
-            same = sym (sym (equal k.offset l.offset k.part.low l.part.low low) ∙ ap (λ (z : ℤ). int_eq z (distance l)) start ∙ ap (int_eq (pos 0)) begin);
-          }
-
-      by : (q : Bool) → is_complete (entry_at w.table t) ≡ q → AreAlike k l
-      by true f = full f
-      by false f = none f
+  -- TWO SEQ POINTERS IN PARTS THAT BEGIN AT ONE BYTE, to types of one class where both have a size
+  pub alike : (t u : TypeId) → AreAlikeWhereSized w.table w.kind t u → (k l : Location) → IsSequenceAt w outlines t k
+      → IsSequenceAt w outlines u l → k.part.low ≡ l.part.low → AreAlike w k l
+  alike t u class k l v z low = by (is_complete (entry_at w.table t)) refl (is_complete (entry_at w.table u)) refl
+    where
+      by : (p : Bool) → is_complete (entry_at w.table t) ≡ p → (q : Bool) → is_complete (entry_at w.table u) ≡ q → AreAlike w k l
+      by true e true f = sized-alike t u e f (class e f) k l v z low
+      by true e false f = alike-turned w l k (none-alike u t f e l k z v (sym low))
+      by false e true f = none-alike t u e f k l v z low
+      by false e false f =
+          let x = far-none t e k v in let y = far-none u f l z in
+          alike-by w k l (pos 0) (pos 0) x.0 y.0 low (λ h. let a = x.1 in let b = y.1 in absurd (omega (arith, ints, h, a, b)))
+          (λ h. let a = x.1 in let b = y.1 in absurd (omega (arith, ints, h, a, b))) (λ h. refl)
 
 -- Words
 

@@ -10,8 +10,6 @@ use Rattle.cc_base.specs.declared.number.NodeId.{NodeId}
 use Rattle.cc_base.specs.declared.place.Place.{Place}
 use Rattle.c_types.specs.declared.shape.TypeShape.{TypeShape}
 use Rattle.c_types.specs.Table.{shape_at}
-use Rattle.c_types.specs.Flows.{IsOfOneClass}
-use Rattle.type_laws.proofs.Pointers.{class_turned}
 use Rattle.integers.specs.Words.{word, truth_word, equal_words}
 use Rattle.integers.specs.Operators.{less_signed}
 use Rattle.integers.specs.Arithmetic.{int, truth}
@@ -30,7 +28,6 @@ use Rattle.src_mem.specs.Outlines.{outlines_of}
 use Rattle.src_mem.specs.Facts.{IsHeldIn, IsSequenceAt}
 use Rattle.facts_kept.specs.Kept.{AllHold}
 use Rattle.facts_kept.proofs.Agree as agree
-use Rattle.facts_kept.proofs.Places.{value-class}
 use Rattle.cil_form.specs.declared.number.Temp.{Temp}
 use Rattle.cil_form.specs.declared.instr.Comparison.{Comparison}
 use Rattle.cil_form.specs.declared.instr.Comparison.TheVariants as comparison
@@ -68,7 +65,7 @@ use Rattle.cure_rules.specs.Code.{Blocks}
 use Rattle.sim_laws.specs.Scenes.{Scene, Running, setting_of, world_of, around_of, context_of}
 use Rattle.sim_laws.specs.Points.{Point, IsLasting, Passed, ground_of}
 use Rattle.sim_laws.specs.Statements.{Lines, CodeOutcome, FlatOutcome, StatesEndAlike, Match, Follows}
-use Rattle.sim_laws.specs.Plain.{IsPlainKind}
+use Rattle.sim_laws.specs.Plain.{IsPlainKind, AreAlikeWhereSized}
 use Rattle.sim_laws.proofs.Guards.{passed-none, passed-then, passed-role, lasting-apart, lasting-other, role-there}
 use Rattle.sim_laws.proofs.Giving.{Gave, gave-past, Changed, changed-one, column-room}
 use Rattle.sim_laws.proofs.Names.{Names}
@@ -359,7 +356,7 @@ equality_lines true w k o v p q = sameness_lines (world_of w) k o v p q ++ flat_
 equality-gives : (w : Scene) (names : Names w) (g : AreSlots w.slots) (b : Running) (known after : Knowledge) (blocks : Blocks) (into a i : Temp) (l : code.Local) (c : flat.Local)
     (point : Point w g b known l c) (m n : NodeId) (u v : TypeId) (p q : ℕ) (x y : List Sure) (h : Points known a m u p x) (k : Points known i n v q y) (at : Place) (turned : Bool)
     → IsPlainKind (w.programs.whole.kind m) → IsPlainKind (w.programs.whole.kind n)
-    → (w.programs.whole.kind m ≡ Seq → w.programs.whole.kind n ≡ Seq → IsOfOneClass w.programs.whole.table w.programs.whole.kind u v)
+    → (w.programs.whole.kind m ≡ Seq → w.programs.whole.kind n ≡ Seq → AreAlikeWhereSized w.programs.whole.table w.programs.whole.kind u v)
     → Takes (world_of w) into 1 → rules.Leaves known into (Some (an_integer (w.slots.column into) Exact int)) after → (first last : Lines)
     → Then (AreGot (world_of w) []) (AreChecks (work_of w.slots) (all_asked check.Same at (equated (w.programs.whole.kind m) (w.programs.whole.kind n) (pointer_slots p) (pointer_slots q)))) first
     → last ≡ equality_lines turned w (w.programs.whole.kind m) (w.programs.whole.kind n) (w.slots.column into) (pointer_slots p) (pointer_slots q)
@@ -482,7 +479,7 @@ in_order S at q z s = all_placed S (λ x. at) (HasBase q ∷ HasBase z ∷ AreOf
 order-gives : (w : Scene) (names : Names w) (g : AreSlots w.slots) (b : Running) (known after : Knowledge) (blocks : Blocks) (into a i : Temp) (l : code.Local) (c : flat.Local)
     (point : Point w g b known l c) (m n : NodeId) (u v : TypeId) (p q : ℕ) (x y : List Sure) (h : Points known a m u p x) (k : Points known i n v q y) (at : Place) (which : Comparison)
     (order : Pointer → Pointer → Act Bool) → ((j d : Location) → order (At j) (At d) l.state ≡ Done (result_of which j.offset d.offset) l.state)
-    → w.programs.whole.kind m ≡ Seq → w.programs.whole.kind n ≡ Seq → IsOfOneClass w.programs.whole.table w.programs.whole.kind u v
+    → w.programs.whole.kind m ≡ Seq → w.programs.whole.kind n ≡ Seq → AreAlikeWhereSized w.programs.whole.table w.programs.whole.kind u v
     → Takes (world_of w) into 1 → rules.Leaves known into (Some (an_integer (w.slots.column into) Exact int)) after → (first last : Lines)
     → Then (AreGot (world_of w) []) (AreChecks (work_of w.slots) (asked check.Base at (IsNotZero (p + 1)) ∷ asked check.Base at (IsNotZero (q + 1))
     ∷ asked check.Same at (AreOfPart (pointer_slots p) (pointer_slots q)) ∷ [])) first
@@ -617,9 +614,11 @@ order-gives w names g b known after blocks into a i l c point m n u v p q x y h 
             value_j : IsSequenceAt S (outlines_of l.state.memory) u j
             value_j = held_j.value
 
-            distances : AreAlike S names.solved.well_formed (outlines_of l.state.memory) u j d
-            distances = alike S names.solved.well_formed (outlines_of l.state.memory) u j d value_j
-                (value-class S names.solved.well_formed (outlines_of l.state.memory) Seq v u (At d) (class_turned w.programs.whole.table w.programs.whole.kind u v class) held_d.value) low
+            value_d : IsSequenceAt S (outlines_of l.state.memory) v d
+            value_d = held_d.value
+
+            distances : AreAlike S j d
+            distances = alike S names.solved.well_formed (outlines_of l.state.memory) u v class j d value_j value_d low
 
             start : ℕ
             start = place gr j.object j.part.low
@@ -649,7 +648,7 @@ order-gives w names g b known after blocks into a i l c point m n u v p q x y h 
 pub compare-pointers-follows : (w : Scene) (names : Names w) (g : AreSlots w.slots) (b : Running) (into a : Temp) (which : Comparison) (t : TypeId) (i : Temp) (s : TypeId) (at : Place)
     (known after : Knowledge) (blocks : Blocks) (lines : Lines)
     → ((m n : NodeId) (u v : TypeId) → IsPointer (world_of w) t m u → IsPointer (world_of w) s n v → IsPlainKind (w.programs.whole.kind m) × IsPlainKind (w.programs.whole.kind n)
-    × (w.programs.whole.kind m ≡ Seq → w.programs.whole.kind n ≡ Seq → IsOfOneClass w.programs.whole.table w.programs.whole.kind u v)
+    × (w.programs.whole.kind m ≡ Seq → w.programs.whole.kind n ≡ Seq → AreAlikeWhereSized w.programs.whole.table w.programs.whole.kind u v)
     × (IsOrder which → (w.programs.whole.kind m ≡ Seq) × (w.programs.whole.kind n ≡ Seq)))
     → IsCuringPoint (point.Compare into which a t i s at) (world_of w) known after lines
     → Follows w g b blocks known after (meaning.act (instr.Point (point.Compare into which a t i s at)) (around_of w b)) lines
@@ -678,7 +677,7 @@ compare-pointers-follows w names g b into a which t i s at known after blocks li
         (λ e. done (Integer (truth e)))
 
     sorts : IsPlainKind (w.programs.whole.kind m) × IsPlainKind (w.programs.whole.kind n)
-        × (w.programs.whole.kind m ≡ Seq → w.programs.whole.kind n ≡ Seq → IsOfOneClass w.programs.whole.table w.programs.whole.kind u v)
+        × (w.programs.whole.kind m ≡ Seq → w.programs.whole.kind n ≡ Seq → AreAlikeWhereSized w.programs.whole.table w.programs.whole.kind u v)
         × (IsOrder which → (w.programs.whole.kind m ≡ Seq) × (w.programs.whole.kind n ≡ Seq))
     sorts = plain m n u v pointer_t pointer_s
 

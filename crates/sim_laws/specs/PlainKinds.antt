@@ -17,7 +17,7 @@ use Rattle.sim_laws.specs.Plain.{IsPlainKind, SequencesPointToOneClass, IsPlainP
 abbrev pub ArePlainKinds : ℕ → (NodeId → Kind) → Type 0
 ArePlainKinds nodes kind = (n : NodeId) → n.0 < nodes → IsPlainKind (kind n)
 
--- two SEQ pointers that the instruction compares or subtracts point to types of one class
+-- two SEQ pointers that the instruction compares or subtracts point to types of one class, or one of them to what has no size
 abbrev pub ComparesWithinClasses : Table → (NodeId → Kind) → Instr → Type 0
 ComparesWithinClasses table kind (instr.Point (point.Difference into a t b s at)) = SequencesPointToOneClass table kind t s
 ComparesWithinClasses table kind (instr.Point (point.Compare into which a t b s at)) = SequencesPointToOneClass table kind t s
@@ -28,7 +28,7 @@ abbrev pub CodeComparesWithinClasses : Table → (NodeId → Kind) → List Inst
 CodeComparesWithinClasses table kind code = (i : Instr) → IsInCode i code → ComparesWithinClasses table kind i
 
 -- Each node of the program is SAFE or SEQ; no pointer is converted to an integer, and two SEQ pointers that are compared or subtracted point to
--- types of one class.
+-- types of one class, or one of them to what has no size.
 pub record IsOfPlainKinds (p : Program) (kind : NodeId → Kind) : Type 0 where
   pub kinds : ArePlainKinds p.nodes kind
   pub numbers : ProgramNumbersNone p

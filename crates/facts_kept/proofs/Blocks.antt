@@ -233,7 +233,7 @@ module _ (w : Setting) (sound : IsWellFormed w.table) where
 
     -- SEQ, to a complete type that it was made for, or to void
     pub block-seq : IsFilled t o → ((IsComplete w.table t → Prim.⊥) → cells_of w.table t ≡ []) → (IsComplete w.table t → IsMadeFor w o.node t) → IsSequenceAt w outlines t here
-    block-seq f void for = record {
+    block-seq f void made_for = record {
       object = o;
       located = located;
       typed = typed f;
@@ -250,7 +250,7 @@ module _ (w : Setting) (sound : IsWellFormed w.table) where
                       (agree-own w sound (repeated_cell (cells_of w.table t) (i % o.size))),
                 );
           };
-      blank = λ c e. for c;
+      blank = λ c e. made_for c;
       shifted = λ c. subst (IsSameShifted w t) (sym none) (shifted-none t c);
       unmoved = λ c. (void c, none);
     }

@@ -8,7 +8,7 @@ use Rattle.c_types.specs.Table.{shape_at}
 use Rattle.c_types.specs.Sound.{IsProper, IsWellFormed}
 use Rattle.flat_mem.specs.Bytes.{IsAccessSize, bytes_at}
 use Rattle.flat_mem.proofs.ByteLaws.{get-bytes_at, length-bytes_at}
-use Rattle.src_mem.specs.Pointers.{Pointer, Value, Integer}
+use Rattle.src_mem.specs.Pointers.{Value}
 use Rattle.cil_form.specs.declared.number.Temp.{Temp}
 use Rattle.cil_form.specs.declared.number.Temp.TheVariants as temp
 use Rattle.cil_form.specs.State as code

@@ -66,7 +66,7 @@ use Rattle.check_forms.specs.Rows.{Asked, asked, flat_conditions}
 use Rattle.check_forms.specs.RowChecks.{AreChecked, AreChecks, first_false}
 use Rattle.check_forms.proofs.RowLaws.{rows}
 use Rattle.sim_relation.specs.Ground.{function_word, pointer_words, word_number}
-use Rattle.sim_relation.specs.Points.{Exact, Known, Knowledge, Sure, IsFunction, IsTrueOf, AreWords, StandsFor}
+use Rattle.sim_relation.specs.Points.{Exact, Knowledge, Sure, IsFunction, IsTrueOf, AreWords, StandsFor}
 use Rattle.sim_checks.specs.Rows.{IsChecked}
 use Rattle.sim_checks.proofs.Pointing.{null-compared}
 use Rattle.sim_checks.proofs.Calling.{room-compared}

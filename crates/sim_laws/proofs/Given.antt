@@ -13,12 +13,12 @@ use Rattle.c_types.specs.Table.{shape_at}
 use Rattle.runs.specs.Outcome.{Outcome, Ended, Done, done, from, allowed}
 use Rattle.runs.specs.Control.{Gives, then_go}
 use Rattle.flat_mem.specs.Memory.{Frame, frame_area, newest_addresses, depth_in}
-use Rattle.src_mem.specs.Pointers.{Pointer, Null, Number, At, Function, Value, Integer, Address}
+use Rattle.src_mem.specs.Pointers.{Pointer, Null, Number, At, Function, Value, Address}
 use Rattle.src_mem.specs.Memory.{Object, Planned, depth_of_object}
 use Rattle.src_mem.specs.Uses.{home}
 use Rattle.src_mem.specs.State as source
 use Rattle.src_mem.specs.State.{Setting}
-use Rattle.src_mem.specs.Checks.{IsNotOfFrame, Return, holds, all_placed}
+use Rattle.src_mem.specs.Checks.{IsNotOfFrame, holds, all_placed}
 use Rattle.src_mem.specs.Values.{returned}
 use Rattle.src_mem.specs.Outlines.{Life, life, lives_of, LivesAt}
 use Rattle.src_mem.specs.Facts.{Reaches, IsHeldBy}

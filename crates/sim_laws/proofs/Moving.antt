@@ -81,7 +81,7 @@ use Rattle.cure_rules.specs.Checks.{Seat, Need, number_at, factor_needs, distanc
 use Rattle.cure_rules.specs.Pointing.{moved_words, IsCuringPoint}
 use Rattle.cure_rules.specs.Code.{Blocks}
 use Rattle.sim_laws.specs.Scenes.{Scene, Running, setting_of, world_of, around_of, context_of}
-use Rattle.sim_laws.specs.Points.{Point, IsLasting, IsPlainType, ground_of}
+use Rattle.sim_laws.specs.Points.{IsLasting, IsPlainType, ground_of}
 use Rattle.sim_laws.specs.Statements.{Lines, CodeOutcome, FlatOutcome, StatesEndAlike, Match, Follows}
 use Rattle.sim_laws.proofs.Points.{same-slots}
 use Rattle.sim_laws.proofs.Guards.{lasting-other, ready}

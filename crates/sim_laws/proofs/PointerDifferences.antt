@@ -78,7 +78,7 @@ use Rattle.cure_rules.specs.Checks.{need, number_at, size_needed, AreGot, IsGuar
 use Rattle.cure_rules.specs.Pointing.{order_by, quotient_lines, IsCuringPoint}
 use Rattle.cure_rules.specs.Code.{Blocks}
 use Rattle.sim_laws.specs.Scenes.{Scene, Running, setting_of, world_of, around_of, context_of}
-use Rattle.sim_laws.specs.Points.{Point, IsLasting, Passed, ground_of}
+use Rattle.sim_laws.specs.Points.{IsLasting, Passed, ground_of}
 use Rattle.sim_laws.specs.Statements.{Lines, CodeOutcome, FlatOutcome, StatesEndAlike, Match, Follows}
 use Rattle.sim_laws.proofs.Guards.{lasting-other, passed-none}
 use Rattle.sim_laws.proofs.Giving.{Gave, Changed, changed-one, column-room}

@@ -2,7 +2,6 @@
 use Rattle.std.proofs.Common.{◌≡◌, Bool, true, false, not, ℕ, [], ◌∷◌, ◌++◌, refl, ap, sym, subst, ◌∙◌}
 use Rattle.cc_base.specs.declared.number.TypeId.{TypeId}
 use Rattle.integers.specs.Words.{truth_word, equal_words, different_words}
-use Rattle.integers.specs.Arithmetic.{truth}
 use Rattle.runs.specs.Outcome.{Matches}
 use Rattle.src_mem.specs.Pointers.{Value, Address, is_null, is_true}
 use Rattle.src_mem.specs.Values.{null_value}

@@ -16,7 +16,7 @@ use Rattle.flat_mem.proofs.ByteLaws.{get-written_inside, get-written_other, leng
 use Rattle.runs.specs.Outcome.{Outcome, Done, Matches, from}
 use Rattle.runs.specs.Control.{then_go}
 use Rattle.src_mem.specs.Pointers.{Pointer, Value, Integer, Address}
-use Rattle.src_mem.specs.Memory.{Object, Planned, new_variable}
+use Rattle.src_mem.specs.Memory.{Planned, new_variable}
 use Rattle.src_mem.specs.State as source
 use Rattle.src_mem.specs.State.{Setting}
 use Rattle.src_mem.specs.Primitives.{store_integer, store_pointer}
@@ -31,7 +31,6 @@ use Rattle.facts_kept.proofs.Arguments.{gives-integer_argument, gives-pointer_ar
 use Rattle.cil_form.specs.declared.program.Parameter.{Parameter}
 use Rattle.cil_form.specs.declared.number.Object.{Object as NamedObject}
 use Rattle.cil_form.specs.declared.number.Object.TheVariants as object
-use Rattle.cil_form.specs.State as code
 use Rattle.cil_form.specs.State.{no_temps}
 use Rattle.cil_form.specs.Typing.{IntegerOf, PointerTo, PlaceOf, no_types}
 use Rattle.cil_form.specs.Machine.{head_of, plan, variables_of}

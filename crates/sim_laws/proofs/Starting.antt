@@ -5,7 +5,6 @@ use Rattle.std.proofs.lemmas.Option.{get_or_from_slice_get, slice_get_within}
 use Rattle.cc_base.specs.declared.kind.Kind.{Kind}
 use Rattle.cc_base.specs.declared.number.NodeId.{NodeId}
 use Rattle.cc_base.specs.declared.number.TypeId.{TypeId}
-use Rattle.kind_sites.specs.declared.site.Site.TheVariants as site
 use Rattle.c_types.specs.Layouts.{size_of}
 use Rattle.c_types.specs.Cells.{AreOrdered}
 use Rattle.c_types.specs.Widths.{width_of, cured_size}
@@ -20,7 +19,7 @@ use Rattle.flat_mem.proofs.FrameLaws.{address-by_8, depth_in-below}
 use Rattle.flat_mem.proofs.SoundLaws.{length-first_bytes, sound-first, sound-pushed, sound-with_bytes}
 use Rattle.runs.specs.Input.{Input, Closed, Open, left}
 use Rattle.src_mem.specs.Pointers.{Address}
-use Rattle.src_mem.specs.Memory.{Object, Planned, charge_of, frame_charge, new_variable}
+use Rattle.src_mem.specs.Memory.{Object, Planned, charge_of, new_variable}
 use Rattle.src_mem.specs.State as source
 use Rattle.src_mem.specs.State.{Defined, Setting, bytes_of}
 use Rattle.src_mem.specs.Outlines.{Outline, Life, outline, life, outlines_of, lives_of}

@@ -10,7 +10,7 @@ use Rattle.c_types.specs.declared.flow_class.FlowClass.TheVariants.{Equal}
 use Rattle.c_types.specs.Table.{IsComplete, shape_at, is_function}
 use Rattle.c_types.specs.Layouts.{size_of}
 use Rattle.c_types.specs.Cells.{Cell, raw, pointer, mixed, incomplete}
-use Rattle.c_types.specs.Equality.{cells_of, repeated_cell}
+use Rattle.c_types.specs.Equality.{cells_of}
 use Rattle.c_types.specs.Flows.{IsOfOneClass, CellsAgree}
 use Rattle.c_types.specs.Contents.{at_place}
 use Rattle.kind_sites.specs.Solutions.{SpreadsWild}
@@ -22,7 +22,7 @@ use Rattle.src_mem.specs.Memory.{Object, Memory, pointer_or_null}
 use Rattle.src_mem.specs.State.{Setting}
 use Rattle.src_mem.specs.Facts.{IsPlace, HoldType, IsSequenceAt, IsValueOf, IsMade, Reaches, IsHeld, IsSoundObject}
 use Rattle.src_mem.proofs.Right.{pointer_cells_are}
-use Rattle.facts_kept.proofs.Agree.{agree-twice, pointer-there}
+use Rattle.facts_kept.proofs.Agree.{pointer-there}
 use Rattle.facts_kept.proofs.Flow.{begins-data}
 use Rattle.facts_kept.proofs.Complete.{complete-some, function-empty}
 use Rattle.facts_kept.proofs.Holds.{in-bounds, class-covers, class-data, covered-holds, seq-stands, seq-holds}

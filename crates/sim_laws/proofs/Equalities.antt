@@ -1,5 +1,5 @@
 -- Two SAFE or SEQ pointers are equal exactly where their words say so: pointers that stand in their parts, or in one part.
-use Rattle.std.proofs.Common.{◌≡◌, ◌≢◌, ℕ, ◌+◌, ◌<◌, ◌≤◌, ℤ, pos, negsuc, Bool, true, false, ◌&&◌, ◌||◌, List, length, nat_eq, slice_get, Some, refl, ap, sym, subst, ◌∙◌, arith, ◌^◌, ◌+ℤ◌}
+use Rattle.std.proofs.Common.{◌≡◌, ◌≢◌, ℕ, ◌<◌, ◌≤◌, ℤ, pos, negsuc, Bool, true, false, ◌&&◌, ◌||◌, List, length, nat_eq, slice_get, Some, refl, ap, sym, subst, ◌∙◌, arith, ◌^◌, ◌+ℤ◌}
 use Rattle.std.specs.Prelude.{◌==◌}
 use Rattle.std.specs.Ordering.{int_eq}
 use Rattle.std.proofs.lemmas.Int.{ints}

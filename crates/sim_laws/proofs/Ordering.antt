@@ -1,5 +1,5 @@
 -- Two SEQ pointers of one part: their words are equal, ordered and so many elements apart as their offsets are.
-use Rattle.std.proofs.Common.{◌≡◌, ℕ, ◌+◌, ◌-◌, ◌*◌, ◌%◌, ◌^◌, ◌<◌, ◌≤◌, ◌⊎◌, ⊎_elim, ℤ, pos, ◌+ℤ◌, ◌-ℤ◌, ◌<ℤ◌, ◌≤ℤ◌, Bool, true, false, not, List, length, nat_eq, refl, ap, sym, ◌∙◌, arith}
+use Rattle.std.proofs.Common.{◌≡◌, ℕ, ◌-◌, ◌%◌, ◌^◌, ◌<◌, ◌⊎◌, ⊎_elim, ℤ, pos, ◌+ℤ◌, ◌-ℤ◌, ◌<ℤ◌, ◌≤ℤ◌, Bool, true, false, not, List, length, nat_eq, refl, ap, sym, ◌∙◌, arith}
 use Rattle.std.specs.Prelude.{int_lt, int_le, slice_index_or, ◌*ℤ◌}
 use Rattle.std.specs.Ordering.{int_eq}
 use Rattle.std.proofs.lemmas.Int.{ints}
@@ -12,7 +12,6 @@ use Rattle.c_types.specs.Cells.{raw}
 use Rattle.c_types.specs.Equality.{cells_of, repeated_cell}
 use Rattle.c_types.specs.Flows.{CellsAgree, IsOfOneClass}
 use Rattle.c_types.specs.Sound.{IsWellFormed}
-use Rattle.c_types.specs.Widths as widths_of
 use Rattle.c_types.specs.Widths.{cell_width, before, stair, cured_distance}
 use Rattle.type_laws.proofs.OneClass.{move-alike}
 use Rattle.type_laws.proofs.Pointers.{class_turned}

@@ -1,13 +1,13 @@
 -- Two SEQ pointers of one part point to types with one endless repetition; so they are of one class, if they are physically equal.
-use Rattle.std.proofs.Common.{◌≡◌, ℕ, zero, suc, ◌+◌, ◌-◌, ◌%◌, ◌<◌, ◌≤◌, ◌⊎◌, inl, inr, ⊎_elim, true, List, length, slice_get, Option, Some, None, refl, ap, sym, subst, ◌∙◌, arith}
+use Rattle.std.proofs.Common.{◌≡◌, ℕ, zero, suc, ◌+◌, ◌-◌, ◌%◌, ◌<◌, ◌≤◌, ◌⊎◌, inl, inr, ⊎_elim, true, List, slice_get, Option, Some, None, ap, sym, subst, ◌∙◌, arith}
 use Rattle.std.proofs.lemmas.Option.{slice_get_within}
 use Rattle.std.proofs.Math.Nat.{mod-eq_of_lt}
 use Rattle.cc_base.specs.declared.number.TypeId.{TypeId}
 use Rattle.kind_sites.specs.declared.site.Site.{Site}
-use Rattle.c_types.specs.Table.{IsComplete, shape_at, is_function}
+use Rattle.c_types.specs.Table.{IsComplete, shape_at}
 use Rattle.c_types.specs.Cells.{Cell, raw, pointer, mixed, incomplete}
 use Rattle.c_types.specs.Equality.{cells_of, repeated_cell, physically_equal}
-use Rattle.c_types.specs.Flows.{HeldPointer, pointer_in_cell, and_then, StandAlike, Correspond, CorrespondByPlace, top, inside, CellsAgree, IsOfOneClass}
+use Rattle.c_types.specs.Flows.{HeldPointer, pointer_in_cell, and_then, StandAlike, CorrespondByPlace, top, inside, CellsAgree, IsOfOneClass}
 use Rattle.c_types.specs.Sound.{IsWellFormed}
 use Rattle.type_laws.proofs.OneClass.{data-pointer}
 use Rattle.src_mem.specs.Pointers.{Location}

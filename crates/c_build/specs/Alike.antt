@@ -16,6 +16,7 @@ use Rattle.cured_code.specs.FlatMachine.{flat_run}
 use Rattle.cured_code.specs.declared.parts.Parts.{Parts}
 use Rattle.sim_relation.specs.Outcomes.{RunAlike}
 use Rattle.sim_laws.specs.Plain.{IsPlainProgram}
+use Rattle.sim_laws.specs.PlainKinds.{ArePlainKinds}
 use Rattle.c_build.specs.Built.{IsBuilt, IsCuringOf}
 
 -- THE CURED RUN IS THE SOURCE'S RUN: for every input of bytes and every number of turns, where RTTI pointers carry these numbers of type nodes.
@@ -27,6 +28,14 @@ RunsAsSource t p s c number_of = (input : Input) (turns : ℕ) → AreBytes (byt
 abbrev pub RunsAlikeIfPlain : Typed → Program → Solved → Parts → Type 0
 RunsAlikeIfPlain t p s c = (is : IsCuringOf p s c) → IsPlainProgram p (kind_at s.kinds) → RunsAsSource t p s c (node_at is.nodes)
 
+-- So it is where each node of the program is SAFE or SEQ.
+abbrev pub RunsAlikeIfPlainKinds : Typed → Program → Solved → Parts → Type 0
+RunsAlikeIfPlainKinds t p s c = (is : IsCuringOf p s c) → ArePlainKinds p.nodes (kind_at s.kinds) → RunsAsSource t p s c (node_at is.nodes)
+
 -- THE THEOREM OF BUILT PROGRAMS: whatever cured program a text has.
 abbrev pub BuiltProgramsRunAlike : Type 0
 BuiltProgramsRunAlike = (text : List ℕ) (t : Typed) (p : Program) (s : Solved) (c : Parts) → IsBuilt text t p s c → RunsAlikeIfPlain t p s c
+
+-- and of every text whose pointers are all SAFE or SEQ
+abbrev pub PlainKindsRunAlike : Type 0
+PlainKindsRunAlike = (text : List ℕ) (t : Typed) (p : Program) (s : Solved) (c : Parts) → IsBuilt text t p s c → RunsAlikeIfPlainKinds t p s c

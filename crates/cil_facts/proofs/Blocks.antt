@@ -6,7 +6,7 @@ use Rattle.cc_base.specs.declared.number.NodeId.{NodeId}
 use Rattle.cc_base.specs.declared.number.TypeId.{TypeId}
 use Rattle.c_types.specs.declared.shape.TypeShape.TheVariants as shape
 use Rattle.kind_sites.specs.declared.site.Site.TheVariants as site
-use Rattle.c_types.specs.Table.{IsComplete, shape_at}
+use Rattle.c_types.specs.Table.{HasShape, IsComplete, shape_at}
 use Rattle.integers.specs.Arithmetic.{unsigned_long}
 use Rattle.integers.specs.Words.{word}
 use Rattle.runs.specs.Outcome.{Outcome, done, either, from, ◌>>=◌, ◌>>◌}
@@ -38,8 +38,9 @@ append-none [] = refl
 append-none (x ∷ xs) = ap (λ l. x ∷ l) (append-none xs)
 
 module _ (k : Context) (a : Around) (solved : IsSolvedFor k a.setting) (types after : Typing) (c : Local) (facts : AreFacts k a types c) where
-  makes : (t : TypeId) → IsBlockType k t → MakesBlocks a.setting t
-  makes t h = subst (λ table. (shape_at table t ≡ shape.Void) ⊎ IsComplete table t) (sym solved.table) h.1
+  makes : (node : NodeId) (t : TypeId) → IsBlockType k node t → MakesBlocks a.setting node t
+  makes node t h =
+      subst (λ table. (shape_at table t ≡ shape.Void) ⊎ (IsComplete table t × ((p : TypeId) × HasShape table p (shape.Pointer node t)))) (sym solved.table) h.1
 
   module _ (at : Place) (node : NodeId) (t : TypeId) (told : Contains k.sites (site.Pointee node t)) where
     -- a block, or none, is tried and given
@@ -78,21 +79,21 @@ module _ (k : Context) (a : Around) (solved : IsSolvedFor k a.setting) (types af
       made = λ h. tt;
     }
 
-    malloc-given : MakesBlocks a.setting t → (v : Value) → IsHeldAs a.setting k.sites c.state.memory a.depth (IntegerOf unsigned_long) v
+    malloc-given : MakesBlocks a.setting node t → (v : Value) → IsHeldAs a.setting k.sites c.state.memory a.depth (IntegerOf unsigned_long) v
         → Gives (allocated a.setting at node t (malloc a.setting node t (v ∷ [])) c.state) (GivesLater k a c (Some (PointerTo node t)))
     malloc-given m (Address p) h = absurd h
     malloc-given m (Integer z) h =
         tried (allocate a.setting node t (word z) c.state)
         (gives-block a.setting solved.well_formed k.sites node t (word z) m c.state a.depth facts.memory)
 
-    elements-given : MakesBlocks a.setting t → (x y : ℕ) → Gives (allocate_elements a.setting node t x y c.state) (GivesBlock a.setting k.sites a.depth node t c.state)
+    elements-given : MakesBlocks a.setting node t → (x y : ℕ) → Gives (allocate_elements a.setting node t x y c.state) (GivesBlock a.setting k.sites a.depth node t c.state)
     elements-given m x y = by (nat_lt (x * y) (2 ^ 64))
       where
         by : (b : Bool) → Gives (either b (allocate a.setting node t (x * y)) (done Null) c.state) (GivesBlock a.setting k.sites a.depth node t c.state)
         by true = gives-block a.setting solved.well_formed k.sites node t (x * y) m c.state a.depth facts.memory
         by false = none
 
-    calloc-given : MakesBlocks a.setting t → (v u : Value) → IsHeldAs a.setting k.sites c.state.memory a.depth (IntegerOf unsigned_long) v
+    calloc-given : MakesBlocks a.setting node t → (v u : Value) → IsHeldAs a.setting k.sites c.state.memory a.depth (IntegerOf unsigned_long) v
         → IsHeldAs a.setting k.sites c.state.memory a.depth (IntegerOf unsigned_long) u
         → Gives (allocated a.setting at node t (calloc a.setting node t (v ∷ u ∷ [])) c.state) (GivesLater k a c (Some (PointerTo node t)))
     calloc-given m (Address p) u h g = absurd h
@@ -106,11 +107,11 @@ module _ (k : Context) (a : Around) (solved : IsSolvedFor k a.setting) (types af
       goes-later k a types after c facts
       (instr-asked (instr.Allocate (allocate.Malloc into n node t at)) k types after solved.tells facts.asked shaped) into (Some (PointerTo node t))
       (allocated a.setting at node t (malloc a.setting node t (c.temps n ∷ [])) c.state) s.3
-      (malloc-given at node t shaped.1.0 (makes t s.1) (c.temps n) (facts.held n (IntegerOf unsigned_long) s.2.1))
+      (malloc-given at node t shaped.1.0 (makes node t s.1) (c.temps n) (facts.held n (IntegerOf unsigned_long) s.2.1))
   allocate-keeps (allocate.Calloc into m n node t at) shaped =
       let s = shaped.0 in
       goes-later k a types after c facts
       (instr-asked (instr.Allocate (allocate.Calloc into m n node t at)) k types after solved.tells facts.asked shaped) into (Some (PointerTo node t))
       (allocated a.setting at node t (calloc a.setting node t (c.temps m ∷ c.temps n ∷ [])) c.state) s.4
-      (calloc-given at node t shaped.1.0 (makes t s.1) (c.temps m) (c.temps n) (facts.held m (IntegerOf unsigned_long) s.2.1)
+      (calloc-given at node t shaped.1.0 (makes node t s.1) (c.temps m) (c.temps n) (facts.held m (IntegerOf unsigned_long) s.2.1)
       (facts.held n (IntegerOf unsigned_long) s.3.1))

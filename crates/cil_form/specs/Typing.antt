@@ -280,14 +280,14 @@ IsShapedAccess (access.Clear o) k types after = IsSome (plan_of k o) × Includes
 IsShapedAccess (access.Copy to to_place from node from_place t assignment) k types after = IsNode k node
     × IsObjectType k t × IsAggregate k.table t × IsTarget to k types t × HoldsAddress types from node t × Includes types after
 
--- a block is made for `void`, or for a complete type
-abbrev pub IsBlockType : Context → TypeId → Type 0
-IsBlockType k t = IsType k.table t × ((shape_at k.table t ≡ shape.Void) ⊎ IsComplete k.table t)
+-- a block is made for `void`, or for a complete type that a pointer type with this node points to
+abbrev pub IsBlockType : Context → NodeId → TypeId → Type 0
+IsBlockType k node t = IsType k.table t × ((shape_at k.table t ≡ shape.Void) ⊎ (IsComplete k.table t × ((p : TypeId) × IsPointer k p node t)))
 
 abbrev pub IsShapedAllocate : Allocate → Context → Typing → Typing → Type 0
-IsShapedAllocate (allocate.Malloc into n node t at) k types after = IsNode k node × IsBlockType k t
+IsShapedAllocate (allocate.Malloc into n node t at) k types after = IsNode k node × IsBlockType k node t
     × Holds types n (IntegerOf unsigned_long) × Leaves types into (Some (PointerTo node t)) after
-IsShapedAllocate (allocate.Calloc into m n node t at) k types after = IsNode k node × IsBlockType k t
+IsShapedAllocate (allocate.Calloc into m n node t at) k types after = IsNode k node × IsBlockType k node t
     × Holds types m (IntegerOf unsigned_long) × Holds types n (IntegerOf unsigned_long) × Leaves types into (Some (PointerTo node t)) after
 
 -- the values from number `first` on are of the parameters' types

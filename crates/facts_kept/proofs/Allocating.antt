@@ -6,10 +6,10 @@ use Rattle.cc_base.specs.declared.kind.Kind.{Kind}
 use Rattle.cc_base.specs.declared.kind.Kind.TheVariants.{Safe, Seq, Rtti, Wild}
 use Rattle.kind_sites.specs.declared.site.Site.{Site}
 use Rattle.c_types.specs.declared.shape.TypeShape.TheVariants.{Void}
-use Rattle.c_types.specs.Table.{shape_at, members_at, is_function, is_function_shape}
+use Rattle.c_types.specs.Table.{IsComplete, shape_at, members_at, is_function, is_function_shape}
 use Rattle.c_types.specs.Layouts.{size_of}
 use Rattle.c_types.specs.Cells.{AreOrdered, cells_of_shape}
-use Rattle.c_types.specs.Equality.{cells_of, physically_equal}
+use Rattle.c_types.specs.Equality.{cells_of, physically_equal, repeated_cell}
 use Rattle.c_types.specs.Sound.{IsWellFormed}
 use Rattle.c_types.proofs.Cells.{cells_are}
 use Rattle.c_types.proofs.OrderedPointers.{get_back, Which, old, new, which}
@@ -20,10 +20,11 @@ use Rattle.src_mem.specs.State.{State, Setting}
 use Rattle.src_mem.specs.Checks.{conditions_of_allocation, null_or_in_bounds}
 use Rattle.src_mem.specs.Primitives.{heap_limit, block_pointer, with_block, allocate}
 use Rattle.src_mem.specs.Outlines.{Outline, Life, outline, life, outlines_of, lives_of, AreOutlines, AreNoDeeper}
-use Rattle.src_mem.specs.Facts.{IsValueOf, IsHeldIn, IsSoundObject, AreSound, IsSoundAt}
+use Rattle.src_mem.specs.Facts.{IsMadeFor, IsValueOf, IsHeldIn, IsSoundObject, AreSound, IsSoundAt}
 use Rattle.src_mem.specs.Laws.{Gives}
 use Rattle.src_mem.proofs.Outlines.{get-mapped}
 use Rattle.facts_kept.specs.Kept.{AllHold, GivesBlock, MakesBlocks}
+use Rattle.facts_kept.proofs.Agree.{agree-own}
 use Rattle.facts_kept.proofs.Lists.{map-both}
 use Rattle.facts_kept.proofs.Complete.{complete-some, complete-data}
 use Rattle.facts_kept.proofs.Holds.{in-bounds}
@@ -44,15 +45,21 @@ module _ (w : Setting) (sound : IsWellFormed w.table) (sites : List Site) where
       cells_are w.table sound.order.0 sound.order.1 (physically_equal w.table) t ∙ ap
       (λ s. cells_of_shape w.table (physically_equal w.table) (cells_of w.table) t s (members_at w.table t)) e
 
-  block-data : (t : TypeId) → MakesBlocks w t → is_function w.table t ≡ false
-  block-data t h = ⊎_elim (λ e. ap is_function_shape e) (λ c. complete-data w.table sound t c) h
+  block-data : (node : NodeId) (t : TypeId) → MakesBlocks w node t → is_function w.table t ≡ false
+  block-data node t h = ⊎_elim (λ e. ap is_function_shape e) (λ c. complete-data w.table sound t c.0) h
 
-  block-long : (t : TypeId) (n : ℕ) → MakesBlocks w t → size_of w.table t ≤ n → length (cells_of w.table t) ≤ n
-  block-long t n h l = ⊎_elim
+  block-long : (node : NodeId) (t : TypeId) (n : ℕ) → MakesBlocks w node t → size_of w.table t ≤ n → length (cells_of w.table t) ≤ n
+  block-long node t n h l = ⊎_elim
       (λ e. let z : length (cells_of w.table t) ≡ 0 = ap length (void-empty t e) in omega (arith, z))
-      (λ c. let z = (complete-some w.table sound t c).1 in omega (arith, z, l)) h
+      (λ c. let z = (complete-some w.table sound t c.0).1 in omega (arith, z, l)) h
 
-  module _ (node : NodeId) (t : TypeId) (n : ℕ) (makes : MakesBlocks w t) (s : State) (depth : ℕ) (facts : IsSoundAt w sites s.memory depth) where
+  -- an empty block too was made for a pointer type
+  block-made : (node : NodeId) (t : TypeId) → MakesBlocks w node t → IsComplete w.table t → IsMadeFor w node t
+  block-made node t h complete = ⊎_elim
+      (λ e. absurd (let z : length (cells_of w.table t) ≡ 0 = ap length (void-empty t e) in let s = (complete-some w.table sound t complete).0 in omega (arith, z, s)))
+      (λ c. record { pointer = c.1.0; to = t; is = c.1.1; agree = λ i. agree-own w sound (repeated_cell (cells_of w.table t) i) }) h
+
+  module _ (node : NodeId) (t : TypeId) (n : ℕ) (makes : MakesBlocks w node t) (s : State) (depth : ℕ) (facts : IsSoundAt w sites s.memory depth) where
     abbrev size : ℕ
     size = block_size w.table (w.kind node) t n
 
@@ -121,18 +128,18 @@ module _ (w : Setting) (sound : IsWellFormed w.table) (sites : List Site) where
         filled k e v = block-filled w sound node t n (λ f. v (sym e ∙ f))
 
         long : AllHold w after (null_or_in_bounds (size_of w.table t) here) → length (cells_of w.table t) ≤ size
-        long c = let b = in-bounds 0 size (pos 0) (size_of w.table t) c.0 in block-long t size makes (let x = b.3 in omega (arith, x))
+        long c = let b = in-bounds 0 size (pos 0) (size_of w.table t) c.0 in block-long node t size makes (let x = b.3 in omega (arith, x))
 
         by : (k : Kind) → w.kind node ≡ k → AllHold w after (conditions_of_allocation k (size_of w.table t) here)
             → IsValueOf w (map outline objects) k t here
         by Safe e c =
             block-safe w sound (map outline objects) (length s.memory.objects) (outline block) there t (filled Safe e (λ a. cc (a)))
-            (block-data t makes) (long c)
+            (block-data node t makes) (long c)
         by Rtti e c =
             block-typed w sound (map outline objects) (length s.memory.objects) (outline block) there t (filled Rtti e (λ a. cc (a)))
-            (block-data t makes) (long c)
+            (block-data node t makes) (long c)
         by Seq e c = block-seq w sound (map outline objects) (length s.memory.objects) (outline block) there t (filled Seq e (λ a. cc (a)))
-            (λ g. ⊎_elim (λ v. void-empty t v) (λ d. absurd (g d)) makes)
+            (λ g. ⊎_elim (λ v. void-empty t v) (λ d. absurd (g d.0)) makes) (block-made node t makes)
         by Wild e c = block-wild w sound (map outline objects) (length s.memory.objects) (outline block) there t e
 
     pub gives-block : Gives (allocate w node t n s) (GivesBlock w sites depth node t s)

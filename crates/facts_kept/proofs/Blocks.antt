@@ -21,7 +21,7 @@ use Rattle.src_mem.specs.Pointers.{Location}
 use Rattle.src_mem.specs.Memory.{block_cells}
 use Rattle.src_mem.specs.State.{Setting}
 use Rattle.c_types.specs.Flows.{CellsAgree}
-use Rattle.src_mem.specs.Facts.{HoldType, IsSameShifted, sequence_least, sequence_most, IsLocated, IsTyped, StandsAt, IsSafeAt, IsTypedAt, IsSequenceAt, IsWildAt, IsTypedPlace}
+use Rattle.src_mem.specs.Facts.{HoldType, IsMadeFor, IsSameShifted, sequence_least, sequence_most, IsLocated, IsTyped, StandsAt, IsSafeAt, IsTypedAt, IsSequenceAt, IsWildAt, IsTypedPlace}
 use Rattle.c_types.proofs.OrderedPointers.{get_front, get_back}
 use Rattle.src_mem.specs.Outlines.{Outline}
 use Rattle.facts_kept.proofs.Agree.{agree-own, get-taken}
@@ -164,6 +164,8 @@ module _ (w : Setting) (sound : IsWellFormed w.table) where
     pub ordered : AreOrdered o.cells
     pub celled : length o.cells ≡ o.size
     pub filled : 0 < length (cells_of w.table t) → (i : ℕ) → i < o.size → slice_get o.cells i ≡ Some (repeated_cell (cells_of w.table t) i)
+    -- which goes on behind its end as it began
+    pub again : IsComplete w.table t → 0 < o.size → (i : ℕ) → repeated_cell (cells_of w.table t) (i % o.size) ≡ repeated_cell (cells_of w.table t) i
 
   pub shifted-none : (t : TypeId) → IsComplete w.table t → IsSameShifted w t (pos 0)
   shifted-none t c = record {
@@ -229,9 +231,9 @@ module _ (w : Setting) (sound : IsWellFormed w.table) where
     pub block-place : IsFilled t o → length (cells_of w.table t) ≤ o.size → IsTypedPlace w outlines t here
     block-place f h = record { object = o; at = 0; located = located; typed = typed f; stands = stands f; holds = hold f h }
 
-    -- SEQ, to a complete type or to void
-    pub block-seq : IsFilled t o → ((IsComplete w.table t → Prim.⊥) → cells_of w.table t ≡ []) → IsSequenceAt w outlines t here
-    block-seq f void = record {
+    -- SEQ, to a complete type that it was made for, or to void
+    pub block-seq : IsFilled t o → ((IsComplete w.table t → Prim.⊥) → cells_of w.table t ≡ []) → (IsComplete w.table t → IsMadeFor w o.node t) → IsSequenceAt w outlines t here
+    block-seq f void made_for = record {
       object = o;
       located = located;
       typed = typed f;
@@ -240,13 +242,15 @@ module _ (w : Setting) (sound : IsWellFormed w.table) where
       most = near';
       filled =
           λ c. record {
-            agree = λ i h. let z : 0 + i ≡ i = omega arith in (
-              repeated_cell (cells_of w.table t) i,
-              ap (slice_get o.cells) z ∙ f.filled (complete-some w.table sound t c).0 i
-                  (omega (arith, h)),
-              agree-own w sound (repeated_cell (cells_of w.table t) i),
-            );
+            agree = λ h i.
+                let some = (complete-some w.table sound t c).0 in let z : o.size - 0 ≡ o.size = omega arith in let y : 0 + i % o.size ≡ i % o.size = omega arith in (
+                  repeated_cell (cells_of w.table t) (i % o.size),
+                  ap (λ k. slice_get o.cells (0 + i % k)) z ∙ ap (slice_get o.cells) y ∙ f.filled some (i % o.size) (mod-lt i h),
+                  subst (CellsAgree w.table w.kind (repeated_cell (cells_of w.table t) (i % o.size))) (f.again c h i)
+                      (agree-own w sound (repeated_cell (cells_of w.table t) (i % o.size))),
+                );
           };
+      blank = λ c e. made_for c;
       shifted = λ c. subst (IsSameShifted w t) (sym none) (shifted-none t c);
       unmoved = λ c. (void c, none);
     }

@@ -28,7 +28,7 @@ use Rattle.src_mem.specs.Memory.{Memory}
 use Rattle.src_mem.specs.Checks.{Conversion, conditions_of_conversion, conditions_by_kinds, null_or_in_bounds, downcast}
 use Rattle.src_mem.specs.Primitives.{is_made_anew, made_at}
 use Rattle.src_mem.specs.State.{Setting}
-use Rattle.src_mem.specs.Facts.{HoldType, IsSameShifted, IsSafeAt, IsTypedAt, IsSequenceAt, IsFunctionOf, IsValueOf, IsMade}
+use Rattle.src_mem.specs.Facts.{HoldType, RepeatAlike, IsMadeFor, IsSameShifted, IsSafeAt, IsTypedAt, IsSequenceAt, IsFunctionOf, IsValueOf, IsMade}
 use Rattle.facts_kept.specs.Kept.{IsFlow, AllHold}
 use Rattle.facts_kept.proofs.Agree.{agree-turned, agree-twice, first, second, negated}
 use Rattle.facts_kept.proofs.Flow.{Tells, class-tells, up-told, tiled-told, equal-data, begins-data, covers-up, by-place, rep-there, tile-some, tile-in-class}
@@ -205,6 +205,24 @@ module _ (w : Setting) (sound : IsWellFormed w.table) (outlines : List Outline) 
   unfolding Alike
   turned t u h i = agree-turned w sound (repeated_cell (cells_of w.table t) i) (repeated_cell (cells_of w.table u) i) (h i)
 
+  -- what one of them fills again and again, or is made of, the other does
+  pub filled-alike : (t u : TypeId) → Alike t u → (cells : List Cell) (low high : ℕ) → RepeatAlike w cells low high t → RepeatAlike w cells low high u
+  unfolding Alike
+  filled-alike t u b cells low high h = record {
+    agree = λ some i. let x = h.agree some i in
+        (x.0, x.1, agree-twice w sound x.0 (repeated_cell (cells_of w.table t) i) (repeated_cell (cells_of w.table u) i) x.2 (b i));
+  }
+
+  pub made-alike : (t u : TypeId) → Alike t u → (node : NodeId) → IsMadeFor w node t → IsMadeFor w node u
+  unfolding Alike
+  made-alike t u b node h = record {
+    pointer = h.pointer;
+    to = h.to;
+    is = h.is;
+    agree = λ i. agree-twice w sound (repeated_cell (cells_of w.table h.to) i) (repeated_cell (cells_of w.table t) i) (repeated_cell (cells_of w.table u) i)
+        (h.agree i) (b i);
+  }
+
   pub both-complete : (t u : TypeId) → is_function w.table u ≡ false → Both t u → IsComplete w.table t → IsComplete w.table u
   unfolding Alike Both
   both-complete t u fu b c = complete-like w sound t u c fu b.1 (b.2 0)
@@ -357,11 +375,8 @@ module _ (w : Setting) (sound : IsWellFormed w.table) (outlines : List Outline) 
         made = class_own w.table w.kind u;
         least = s.least;
         most = s.most;
-        filled =
-            λ c. record {
-              agree = λ i h. let x = (s.filled ct).agree i h in
-                  (x.0, x.1, agree-twice w sound x.0 (repeated_cell (cells_of w.table t) i) (repeated_cell (cells_of w.table u) i) x.2 (b.2 i));
-            };
+        filled = λ c. filled-alike t u b.2 s.object.cells l.part.low l.part.high (s.filled ct);
+        blank = λ c e. made-alike t u b.2 s.object.node (s.blank ct e);
         shifted = λ c. shifted-alike t u b (complete-some w.table sound t ct).1 (complete-some w.table sound u cu).1 (distance l) (s.shifted ct);
         unmoved = λ c. absurd (c cu);
       }
@@ -382,6 +397,7 @@ module _ (w : Setting) (sound : IsWellFormed w.table) (outlines : List Outline) 
         least = s.least;
         most = s.most;
         filled = λ c. absurd (nu c);
+        blank = λ c. absurd (nu c);
         shifted = λ c. absurd (nu c);
         unmoved = λ c. (eu, (s.unmoved nt).1);
       }

@@ -66,6 +66,7 @@ module _ (w : Setting) (xs ys : List Outline) where
         least = s.least;
         most = s.most;
         filled = s.filled;
+        blank = s.blank;
         shifted = s.shifted;
         unmoved = s.unmoved;
       }

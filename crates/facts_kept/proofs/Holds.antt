@@ -21,6 +21,7 @@ use Rattle.src_mem.specs.Pointers.{Location, distance}
 use Rattle.src_mem.specs.Checks.{fits_between}
 use Rattle.src_mem.specs.State.{Setting}
 use Rattle.src_mem.specs.Facts.{HoldType, StandsAt, IsSequenceAt}
+use Rattle.src_mem.proofs.Right.{filled_part}
 use Rattle.facts_kept.proofs.Agree.{agree-twice, covered-cells}
 use Rattle.facts_kept.proofs.Flow.{equal-data, equal-begins, rep-there}
 use Rattle.facts_kept.proofs.Complete.{cells-whole, complete-cell, complete-some}
@@ -101,7 +102,7 @@ module _ (w : Setting) (sound : IsWellFormed w.table) where
         → (c : Cell) × (slice_get s.object.cells (at + i) ≡ Some c) × CellsAgree w.table w.kind c (repeated_cell (cells_of w.table t) i)
     seq-cell complete at offset low i high =
         let here : l.part.low + (at - l.part.low + i) ≡ at + i = omega (arith, low) in
-        let x = (s.filled complete).agree (at - l.part.low + i) (subst (λ k. k < l.part.high) (sym here) high) in
+        let x = (filled_part (s.filled complete)).agree (at - l.part.low + i) (subst (λ k. k < l.part.high) (sym here) high) in
         let n = (complete-some w.table sound t complete).1 in
         let apart : distance l +ℤ pos i ≡ pos (at - l.part.low + i) = ap (λ z. z -ℤ pos l.part.low +ℤ pos i) offset
         ∙ difference at l.part.low i low in

@@ -1,11 +1,12 @@
 -- The address of a part of a place: a member, an array that decays, a place under `&`.
-use Rattle.std.proofs.Common.{◌≡◌, ℕ, zero, suc, ◌+◌, ◌-◌, ◌*◌, ◌<◌, ◌≤◌, ◌≤ℤ◌, pos, ◌-ℤ◌, List, [], ◌∷◌, ◌++◌, map, length, take, replicate, slice_get, Some, refl, ap, sym, subst, ◌∙◌, arith}
+use Rattle.std.proofs.Common.{◌≡◌, ℕ, zero, suc, ◌+◌, ◌-◌, ◌*◌, ◌%◌, ◌<◌, ◌≤◌, ◌≤ℤ◌, pos, ◌-ℤ◌, List, [], ◌∷◌, ◌++◌, map, length, take, replicate, slice_get, Some, refl, ap, sym, subst, ◌∙◌, arith}
 use Rattle.std.specs.Prelude.{slice_index_or}
 use Rattle.std.specs.List.{Contains, All, fold, repeat}
 use Rattle.std.proofs.lemmas.Int.{ints}
 use Rattle.std.proofs.lemmas.Option.{slice_get_within, slice_get-get_or}
 use Rattle.std.proofs.lemmas.List.Elements.{All-contains}
-use native.Mathlib.Nat.{mod-eq_of_lt}
+use Rattle.std.proofs.Math.Nat.{mod-mod_of_dvd, dvd-mul_right}
+use native.Mathlib.Nat.{mod-lt, mod-eq_of_lt}
 use Rattle.cc_base.specs.declared.number.TypeId.{TypeId}
 use Rattle.cc_base.specs.declared.number.NodeId.{NodeId}
 use Rattle.c_types.specs.declared.shape.TypeShape.TheVariants.{Array, Struct}
@@ -35,6 +36,8 @@ use Rattle.facts_kept.proofs.Blocks.{shifted-none, rep-get, rep-length}
 pub record Fills (w : Setting) (v x : TypeId) : Type 0 where
   pub first : length (cells_of w.table x) ≤ length (cells_of w.table v)
   pub some : 0 < length (cells_of w.table x)
+  pub count : ℕ
+  pub whole : length (cells_of w.table v) ≡ length (cells_of w.table x) * count
   pub each : (i : ℕ) → i < length (cells_of w.table v) → slice_get (cells_of w.table v) i ≡ Some (repeated_cell (cells_of w.table x) i)
 
 module _ (w : Setting) (sound : IsWellFormed w.table) where
@@ -42,6 +45,8 @@ module _ (w : Setting) (sound : IsWellFormed w.table) where
   fills-own v c = record {
     first = omega arith;
     some = (complete-some w.table sound v c).0;
+    count = 1;
+    whole = omega arith;
     each = λ i h. ap (slice_get (cells_of w.table v)) (sym (mod-eq_of_lt h)) ∙ rep-there (cells_of w.table v) i (omega (arith, h));
   }
 
@@ -49,6 +54,8 @@ module _ (w : Setting) (sound : IsWellFormed w.table) where
   fills-array v x n e = record {
     first = omega (arith, long, positive, more);
     some = (complete-some w.table sound x part).0;
+    count = n;
+    whole = long ∙ turned n (length (cells_of w.table x));
     each = λ i h. ap (λ cs. slice_get cs i) cells ∙ rep-get n (cells_of w.table x) i (omega (arith, h, long));
   }
     where
@@ -56,6 +63,9 @@ module _ (w : Setting) (sound : IsWellFormed w.table) where
       part =
           All-contains (IsComplete w.table) (x ∷ []) x
           (subst (λ s. All (IsComplete w.table) (parts_of_shape s (members_at w.table v))) e (sound.each v).parts) (0, omega arith, refl)
+
+      turned : (m n : ℕ) → m * n ≡ n * m
+      turned m n = grind arith
 
       positive : 0 < n
       positive = subst IsProper e (sound.each v).proper
@@ -196,11 +206,24 @@ module _ (w : Setting) (sound : IsWellFormed w.table) where
       made = class_own w.table w.kind x;
       least = near (p.at + offset);
       most = near' (p.at + offset);
-      filled = λ c. record { agree = λ i h. cell i (omega (arith, h)) };
+      filled = λ c. record { agree = λ h i. again i };
+      blank = λ c e. let h = some in absurd (omega (arith, e, h));
       shifted = λ c. subst (IsSameShifted w x) (sym (none (p.at + offset))) (shifted-none w sound x c);
       unmoved = λ c. absurd (c complete);
     }
       where
+        -- the part consists of whole elements
+        again : (i : ℕ) → (c : Cell) × (slice_get p.object.cells (p.at + offset + i % ((p.at + offset + m) - (p.at + offset))) ≡ Some c)
+            × CellsAgree w.table w.kind c (repeated_cell (cells_of w.table x) i)
+        again i =
+            let long : (p.at + offset + m) - (p.at + offset) ≡ m = omega arith in
+            let c = cell (i % m) (mod-lt i some) in
+            let product : m ≡ length (cells_of w.table x) * fills.count = sym size ∙ fills.whole in
+            let same : repeated_cell (cells_of w.table x) (i % m) ≡ repeated_cell (cells_of w.table x) i = ap (λ k. slice_index_or (cells_of w.table x) k raw)
+            (ap (λ k. i % k % length (cells_of w.table x)) product
+            ∙ mod-mod_of_dvd (length (cells_of w.table x)) i (dvd-mul_right (length (cells_of w.table x)) fills.count)) in
+            (c.0, ap (λ k. slice_get p.object.cells (p.at + offset + i % k)) long ∙ c.1, subst (CellsAgree w.table w.kind c.0) same c.2)
+
         none : (k : ℕ) → pos k -ℤ pos k ≡ pos 0
         none k = omega (arith, ints)
 

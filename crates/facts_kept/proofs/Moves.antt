@@ -111,6 +111,7 @@ module _ (w : Setting) (sound : IsWellFormed w.table) (outlines : List Outline) 
             least = subst (λ z. sequence_least ≤ℤ z) (sym f) r.0;
             most = subst (λ z. z ≤ℤ sequence_most) (sym f) r.1;
             filled = s.filled;
+            blank = s.blank;
             shifted = λ k. record {
               agree = λ i.
                   let a : distance (record l { offset = l.offset +ℤ n *ℤ pos (size_of w.table t) }) +ℤ pos i ≡ (distance l +ℤ pos i) +ℤ n *ℤ pos

@@ -10,7 +10,7 @@ use Rattle.c_types.specs.declared.flow_class.FlowClass.TheVariants.{Equal}
 use Rattle.c_types.specs.Table.{IsComplete, shape_at, is_function}
 use Rattle.c_types.specs.Layouts.{size_of}
 use Rattle.c_types.specs.Cells.{Cell, raw, pointer, mixed, incomplete}
-use Rattle.c_types.specs.Equality.{cells_of, repeated_cell}
+use Rattle.c_types.specs.Equality.{cells_of}
 use Rattle.c_types.specs.Flows.{IsOfOneClass, CellsAgree}
 use Rattle.c_types.specs.Contents.{at_place}
 use Rattle.kind_sites.specs.Solutions.{SpreadsWild}
@@ -22,12 +22,12 @@ use Rattle.src_mem.specs.Memory.{Object, Memory, pointer_or_null}
 use Rattle.src_mem.specs.State.{Setting}
 use Rattle.src_mem.specs.Facts.{IsPlace, HoldType, IsSequenceAt, IsValueOf, IsMade, Reaches, IsHeld, IsSoundObject}
 use Rattle.src_mem.proofs.Right.{pointer_cells_are}
-use Rattle.facts_kept.proofs.Agree.{agree-twice, pointer-there}
+use Rattle.facts_kept.proofs.Agree.{pointer-there}
 use Rattle.facts_kept.proofs.Flow.{begins-data}
 use Rattle.facts_kept.proofs.Complete.{complete-some, function-empty}
 use Rattle.facts_kept.proofs.Holds.{in-bounds, class-covers, class-data, covered-holds, seq-stands, seq-holds}
 use Rattle.facts_kept.specs.Kept.{AllHold, asked_of}
-use Rattle.facts_kept.proofs.Convert.{safe-at, typed-typed, safe-function, Both, Alike, both-or-void, both-complete, seq-complete, shifted-alike}
+use Rattle.facts_kept.proofs.Convert.{safe-at, typed-typed, safe-function, Both, Alike, filled-alike, made-alike, both-or-void, both-complete, seq-complete, shifted-alike}
 
 module _ (w : Setting) (sound : IsWellFormed w.table) (outlines : List Outline) where
   -- A pointer that is a value of its kind to t is one to each type of one class.
@@ -49,6 +49,7 @@ module _ (w : Setting) (sound : IsWellFormed w.table) (outlines : List Outline) 
             most = s.most;
             made = class_twice w.table w.kind sound l.made t u s.made one;
             filled = λ c. absurd (nu c);
+            blank = λ c. absurd (nu c);
             shifted = λ c. absurd (nu c);
             unmoved = λ c. (eu, (s.unmoved nt).1);
           }
@@ -62,11 +63,8 @@ module _ (w : Setting) (sound : IsWellFormed w.table) (outlines : List Outline) 
             least = s.least;
             most = s.most;
             made = class_twice w.table w.kind sound l.made t u s.made one;
-            filled =
-                λ c. record {
-                  agree = λ i h. let x = (s.filled ct).agree i h in
-                      (x.0, x.1, agree-twice w sound x.0 (repeated_cell (cells_of w.table t) i) (repeated_cell (cells_of w.table u) i) x.2 (b.2 i));
-                };
+            filled = λ c. filled-alike w sound outlines t u b.2 s.object.cells l.part.low l.part.high (s.filled ct);
+            blank = λ c e. made-alike w sound outlines t u b.2 s.object.node (s.blank ct e);
             shifted =
                 λ c. shifted-alike w sound outlines t u b (complete-some w.table sound t ct).1 (complete-some w.table sound u cu).1 (distance l)
                 (s.shifted ct);

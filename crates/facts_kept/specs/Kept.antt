@@ -8,7 +8,7 @@ use Rattle.kind_sites.specs.declared.site.Site.{Site}
 use Rattle.kind_sites.specs.declared.site.Site.TheVariants as site
 use Rattle.c_types.specs.declared.shape.TypeShape.{TypeShape}
 use Rattle.c_types.specs.declared.shape.TypeShape.TheVariants as shape
-use Rattle.c_types.specs.Table.{IsComplete, shape_at}
+use Rattle.c_types.specs.Table.{HasShape, IsComplete, shape_at}
 use Rattle.c_types.specs.Layouts.{size_of}
 use Rattle.c_types.specs.Cells.{Cell}
 use Rattle.c_types.specs.Equality.{cells_of}
@@ -83,9 +83,9 @@ pub record GivesBlock (w : Setting) (sites : List Site) (depth : ℕ) (node : No
   pub held : AllHold w new.memory (conditions_of_allocation (w.kind node) (size_of w.table t) p) → IsHeldIn w new.memory depth (w.kind node) t p
   pub made : Contains sites (site.Pointee node t) → IsMade sites p
 
--- what a block may be made of: a type that has a size, or `void`
-abbrev pub MakesBlocks : Setting → TypeId → Type 0
-MakesBlocks w t = (shape_at w.table t ≡ shape.Void) ⊎ IsComplete w.table t
+-- what a block may be made of for a pointer of the node: a type that has a size and that a pointer type with this node points to, or `void`
+abbrev pub MakesBlocks : Setting → NodeId → TypeId → Type 0
+MakesBlocks w node t = (shape_at w.table t ≡ shape.Void) ⊎ (IsComplete w.table t × ((p : TypeId) × HasShape w.table p (shape.Pointer node t)))
 
 -- v stands at an offset in t: its cells agree with those of t there
 pub record IsSub (w : Setting) (t : TypeId) (offset : ℕ) (v : TypeId) : Type 0 where

@@ -233,7 +233,7 @@ PartsArePlaces =
 
 abbrev pub AllocationsGiveWhatMayBeHeld : Type 0
 AllocationsGiveWhatMayBeHeld =
-    (w : Setting) (sites : List Site) (depth : ℕ) (node : NodeId) (t : TypeId) (n : ℕ) (s : State) → IsWellFormed w.table → MakesBlocks w t
+    (w : Setting) (sites : List Site) (depth : ℕ) (node : NodeId) (t : TypeId) (n : ℕ) (s : State) → IsWellFormed w.table → MakesBlocks w node t
     → IsSoundAt w sites s.memory depth → Gives (allocate w node t n s) (GivesBlock w sites depth node t s)
 
 -- Addresses of places

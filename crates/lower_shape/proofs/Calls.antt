@@ -240,7 +240,7 @@ module _ (s : Stage) (f : Frame) (w : Knows s f) (b : ℕ) (kept : Typing) where
   -- an allocation
   pub allocates : (P : Form) (which : Runtime) (t : ℕ) (at : Place) (l : TypedArguments) (e : TypedExpr) (node : NodeId) (u : TypeId)
       → suc t + count l ≤ 256
-      → IsRuntimeCallOf s.table which e l → IsNode Kc node → IsBlockType Kc u → Contains f.sites (site.Pointee node u) → AllRow Kc P (suc t) l
+      → IsRuntimeCallOf s.table which e l → IsNode Kc node → IsBlockType Kc node u → Contains f.sites (site.Pointee node u) → AllRow Kc P (suc t) l
       → AllLead Kc (Then P (Allocates which (count l) t node u at)) t (Some (PointerTo node u))
   unfolding Allocates
   allocates P function.Malloc t at (typed.AndArgument typed.NoArgument a) e node u small h here block told p =

@@ -524,7 +524,7 @@ module _ (s : Stage) (f : Frame) (w : Knows s f) (b : ℕ) (kept : Typing) where
         leads-as K code t (Some (PointerTo node (pointee_at s.table ty))) (held_by K ty)
         (sym (pointer-held (shape_at s.table ty) node (pointee_at s.table ty) (call.type.1 ∙ ap (λ z. shape.Pointer node z) (sym to))))
         (calling.allocates s f w b kept (IsCodeOfArguments arguments (low s f) (suc t)) which t at arguments g node (pointee_at s.table ty)
-        (omega (arith, m, count-same arguments)) call.call there (subst (λ x. IsBlockType K x) (sym to) (call.nothing.0, inl call.nothing.1))
+        (omega (arith, m, count-same arguments)) call.call there (subst (λ x. IsBlockType K node x) (sym to) (call.nothing.0, inl call.nothing.1))
         (subst (λ x. Contains f.sites (site.Pointee node x)) (sym to) (w.pointees ty node call.void call.type))
         (λ c d. rows arguments Z t c d ra told (omega (arith, m))) code h)
       where
@@ -537,7 +537,7 @@ module _ (s : Stage) (f : Frame) (w : Knows s f) (b : ℕ) (kept : Typing) where
         (calling.allocates s f w b kept (IsCodeOfArguments arguments (low s f) (suc t)) which t at arguments g (node_at s.table ty)
         (pointee_at s.table ty)
         (omega (arith, m, count-same arguments)) call.call (subst (λ (z : NodeId). z.0 < s.nodes) (sym from) (w.nodes ty n u p))
-        (subst (λ x. IsBlockType K x) (sym to) (whole.0, inr whole.1))
+        (subst (λ z. IsBlockType K z (pointee_at s.table ty)) (sym from) (subst (λ x. IsBlockType K n x) (sym to) (whole.0, inr (whole.1, (ty, p)))))
         (subst (λ z. Contains f.sites (site.Pointee z (pointee_at s.table ty))) (sym from)
         (subst (λ x. Contains f.sites (site.Pointee n x)) (sym to) (w.pointees ty n u p)))
         (λ c d. rows arguments Z t c d ra told (omega (arith, m))) code h)

@@ -27,6 +27,7 @@ use Rattle.src_mem.specs.State.{Setting}
 use Rattle.src_mem.specs.Checks.{between}
 use Rattle.src_mem.specs.Facts.{IsSequenceAt, IsSameShifted}
 use Rattle.src_mem.specs.Outlines.{outlines_of}
+use Rattle.src_mem.proofs.Right.{filled_part}
 use Rattle.cil_facts.proofs.Homes.{complete-along}
 use Rattle.cured_code.specs.FlatState as flat
 use Rattle.check_forms.specs.declared.slots.PointerSlots.{PointerSlots}
@@ -190,7 +191,7 @@ module _ (w : Setting) (number_of : TypeId → ℕ) (s : source.State) (c : flat
       len_is =
           let v = value in
           let to : l.part.low + (l.part.high - l.part.low) ≡ l.part.high = (let o = v.located.ordered in omega (arith, o)) in
-          let f = filled-run w v.object.cells l.part.low l.part.high t (ends w sound t complete).some (v.filled complete) (l.part.high - l.part.low) (omega (arith, to)) in
+          let f = filled-run w v.object.cells l.part.low l.part.high t (ends w sound t complete).some (filled_part (v.filled complete)) (l.part.high - l.part.low) (omega (arith, to)) in
           let k = ap (before w.kind v.object.cells) to in
           let m = before-mono w.kind v.object.cells l.part.low l.part.high v.located.ordered in omega (arith, ints, f, k, m)
 

@@ -248,7 +248,7 @@ module _ (w : Scene) (g : AreSlots w.slots) (b : Running) (known : Knowledge) (l
 
 module _ (w : Scene) (names : Names w) (count : length w.programs.parts.functions ≡ suc (length (setting_of w.programs).functions)) (g : AreSlots w.slots) (b : Running)
     (known : Knowledge) (l : code.Local) (c : flat.Local) (p : Point w g b known l c) (node : NodeId) (t : TypeId) (plain : w.programs.whole.kind node ≢ Wild)
-    (makes : MakesBlocks (setting_of w.programs) t) (n : ℕ) where
+    (makes : MakesBlocks (setting_of w.programs) node t) (n : ℕ) where
   abbrev S : Setting
   S = setting_of w.programs
 
@@ -467,7 +467,7 @@ whole-elements n m some = let h : n / m * m + n % m ≡ n = div-add-mod' n m in 
 
 module _ (w : Scene) (names : Names w) (count : length w.programs.parts.functions ≡ suc (length (setting_of w.programs).functions)) (g : AreSlots w.slots) (b : Running)
     (known : Knowledge) (l : code.Local) (c : flat.Local) (p : Point w g b known l c) (node : NodeId) (t : TypeId) (plain : w.programs.whole.kind node ≢ Wild)
-    (makes : MakesBlocks (setting_of w.programs) t) (n : ℕ) (below : n < 2 ^ 64) (a : ℕ) (amount : IsAmount w g a) (is : slot c a ≡ n) where
+    (makes : MakesBlocks (setting_of w.programs) node t) (n : ℕ) (below : n < 2 ^ 64) (a : ℕ) (amount : IsAmount w g a) (is : slot c a ≡ n) where
   abbrev long : ℕ
   long = block_size w.programs.whole.table (w.programs.whole.kind node) t n
 
@@ -489,9 +489,9 @@ module _ (w : Scene) (names : Names w) (count : length w.programs.parts.function
     complete : IsComplete w.programs.whole.table t
     complete = by makes
       where
-        by : MakesBlocks (setting_of w.programs) t → IsComplete w.programs.whole.table t
+        by : MakesBlocks (setting_of w.programs) node t → IsComplete w.programs.whole.table t
         by (inl void) = absurd (let e = void-holds (setting_of w.programs) names.solved.well_formed t void in cc (e, holds))
-        by (inr h) = h
+        by (inr h) = h.0
 
     abbrev m : ℕ
     m = size_of w.programs.whole.table t
@@ -677,8 +677,8 @@ module _ (w : Scene) (names : Names w) (count : length w.programs.parts.function
 -- The pointer to a block
 
 -- how far its start is from the start of its part
-none-far : (w : Scene) (names : Names w) (t : TypeId) → MakesBlocks (setting_of w.programs) t → cured_distance w.programs.whole.table w.programs.whole.kind t (pos 0) ≡ pos 0
-none-far w names t makes = by (is_complete (entry_at w.programs.whole.table t)) refl
+none-far : (w : Scene) (names : Names w) (t : TypeId) → cured_distance w.programs.whole.table w.programs.whole.kind t (pos 0) ≡ pos 0
+none-far w names t = by (is_complete (entry_at w.programs.whole.table t)) refl
   where
     by : (q : Bool) → is_complete (entry_at w.programs.whole.table t) ≡ q → cured_distance w.programs.whole.table w.programs.whole.kind t (pos 0) ≡ pos 0
     by false e = still (setting_of w.programs) t e (pos 0)
@@ -702,13 +702,13 @@ safe-words : (w : Scene) (t : TypeId) (made bytes : ℕ) (s : source.State) (c :
 safe-words w t made bytes s c q (inl (none, is)) = ap (pointer_words (ground_of w.programs s c) Safe) is ∙ ap (λ (n : ℕ). n ∷ []) (sym none)
 safe-words w t made bytes s c q (inr x) = ap (pointer_words (ground_of w.programs s c) Safe) x.is ∙ ap (λ (n : ℕ). n ∷ []) (sym x.start)
 
-sequence-words : (w : Scene) (names : Names w) (t : TypeId) → MakesBlocks (setting_of w.programs) t → (made bytes : ℕ) (s : source.State) (c : flat.State) (q : Pointer)
+sequence-words : (w : Scene) (names : Names w) (t : TypeId) (made bytes : ℕ) (s : source.State) (c : flat.State) (q : Pointer)
     → IsGiven w.programs t made bytes s c q → pointer_words (ground_of w.programs s c) Seq q ≡ made ∷ made ∷ end_by (is_true_word made) made bytes ∷ []
-sequence-words w names t makes made bytes s c q (inl (none, is)) =
+sequence-words w names t made bytes s c q (inl (none, is)) =
     ap (pointer_words (ground_of w.programs s c) Seq) is ∙ ap (λ (n : ℕ). n ∷ n ∷ end_by (is_true_word n) n bytes ∷ []) (sym none)
-sequence-words w names t makes made bytes s c q (inr x) =
+sequence-words w names t made bytes s c q (inr x) =
     ap (pointer_words gr Seq) x.is
-    ∙ ap (λ (z : ℤ). word (pos (place gr x.number 0) +ℤ z) ∷ place gr x.number 0 ∷ place gr x.number x.size ∷ []) (none-far w names t makes)
+    ∙ ap (λ (z : ℤ). word (pos (place gr x.number 0) +ℤ z) ∷ place gr x.number 0 ∷ place gr x.number x.size ∷ []) (none-far w names t)
     ∙ ap (λ (n : ℕ). word (pos n +ℤ pos 0) ∷ n ∷ place gr x.number x.size ∷ []) (sym x.start)
     ∙ ap (λ (n : ℕ). n ∷ made ∷ place gr x.number x.size ∷ []) (flat-word made (let h = x.small in omega (arith, h)))
     ∙ ap (λ (n : ℕ). made ∷ made ∷ n ∷ []) (sym x.end ∙ sym (mod-eq_of_lt (let h = x.small in omega (arith, h))))
@@ -748,7 +748,7 @@ choice-runs ctx c a x y xs ys rest e f =
 
 -- What an allocation gives: behind BOUNDS where the pointer has one word.
 module _ (w : Scene) (names : Names w) (g : AreSlots w.slots) (b : Running) (known after : Knowledge) (blocks : Blocks) (into : Temp) (l : code.Local) (c : flat.Local)
-    (node : NodeId) (t : TypeId) (at : Place) (makes : MakesBlocks (setting_of w.programs) t)
+    (node : NodeId) (t : TypeId) (at : Place) (makes : MakesBlocks (setting_of w.programs) node t)
     (told : Contains w.programs.sites (site.Pointee node t)) (takes : Takes (world_of w) into (word_number (w.programs.whole.kind node)))
     (leave : rules.Leaves known into (Some (a_pointer (w.slots.column into) node t [])) after) (outcome : Outcome source.Ending source.State Pointer) (d : ℕ)
     (amount : IsAmount w g d ⊎ (d ≡ slot_of w.slots Bytes)) (first : Lines) (z : BlockMade w g b known l node t outcome d first c) (given : Seat) where
@@ -909,7 +909,7 @@ module _ (w : Scene) (names : Names w) (g : AreSlots w.slots) (b : Running) (kno
 
       words : pointer_words (ground_of w.programs (z).next e.state) k (z).pointer ≡ m ∷ m ∷ end ∷ []
       words = ap (λ (i : Kind). pointer_words (ground_of w.programs (z).next e.state) i (z).pointer) seq
-          ∙ sequence-words w names t makes (slot e at_made) (slot e d) (z).next e.state (z).pointer is
+          ∙ sequence-words w names t (slot e at_made) (slot e d) (z).next e.state (z).pointer is
 
       others : (a : ℕ) → ((j : ℕ) → j < 3 → a ≡ v + j → ⊥) → slice_index slots a ≡ slice_index e.slots a
       others a none =
@@ -1005,8 +1005,8 @@ module _ (w : Scene) (names : Names w) (g : AreSlots w.slots) (b : Running) (kno
           complete : IsComplete w.programs.whole.table t
           complete = of makes
             where
-              of : MakesBlocks Here t → IsComplete w.programs.whole.table t
-              of (inr i) = i
+              of : MakesBlocks Here node t → IsComplete w.programs.whole.table t
+              of (inr i) = i.0
               of (inl void) = absurd (let i : is_complete (entry_at w.programs.whole.table t) ≡ false = ap (λ (x : TypeShape). is_complete_entry x (members_at w.programs.whole.table t)) void in
                   let n = names.sizes.none t i in let f : nat_eq (rules.cured_size w.programs.whole t) 0 ≡ true = ap (λ (x : ℕ). nat_eq x 0) n in cc (e, f))
 
@@ -1086,7 +1086,7 @@ plain-kind k (inr e) f = absurd (let g : Seq ≡ Wild = sym e ∙ f in cc (g))
 
 pub malloc-follows : (w : Scene) (names : Names w) → length w.programs.parts.functions ≡ suc (length (setting_of w.programs).functions) → (g : AreSlots w.slots) (b : Running)
     (into n : Temp) (node : NodeId) (t : TypeId) (at : Place) (known after : Knowledge) (blocks : Blocks) (lines : Lines)
-    → (w.programs.whole.kind node ≡ Safe) ⊎ (w.programs.whole.kind node ≡ Seq) → MakesBlocks (setting_of w.programs) t → Contains w.programs.sites (site.Pointee node t)
+    → (w.programs.whole.kind node ≡ Safe) ⊎ (w.programs.whole.kind node ≡ Seq) → MakesBlocks (setting_of w.programs) node t → Contains w.programs.sites (site.Pointee node t)
     → IsCuringAllocate (allocate.Malloc into n node t at) (world_of w) known after lines
     → Follows w g b blocks known after (meaning.act (instr.Allocate (allocate.Malloc into n node t at)) (around_of w b)) lines
 unfolding Then
@@ -1270,7 +1270,7 @@ multiplied w g b c count m n p q p_lasts q_lasts p_is q_is m_small n_small x y i
 
 -- a block of whole elements, or none where their number of bytes is none
 elements-block : (w : Scene) (names : Names w) → length w.programs.parts.functions ≡ suc (length (setting_of w.programs).functions) → (g : AreSlots w.slots) (b : Running)
-    (known : Knowledge) (l : code.Local) (c : flat.Local) → Point w g b known l c → (node : NodeId) (t : TypeId) → w.programs.whole.kind node ≢ Wild → MakesBlocks (setting_of w.programs) t
+    (known : Knowledge) (l : code.Local) (c : flat.Local) → Point w g b known l c → (node : NodeId) (t : TypeId) → w.programs.whole.kind node ≢ Wild → MakesBlocks (setting_of w.programs) node t
     → (m n : ℕ) (x y : Lines) → Multiplied w g b m n x c → (seat : Seat) (d : ℕ)
     → Choice (slot_of w.slots First) (Line (flat_instr.Const (slot_of w.slots Made) 0 ∷ [])) (MakesBlock (world_of w) seat (w.programs.whole.kind node) t (slot_of w.slots Amount) d) y
     → BlockMade w g b known l node t (primitive.allocate_elements (setting_of w.programs) node t m n l.state) d (x ++ y) c × ((d ≡ slot_of w.slots Amount) ⊎ (d ≡ slot_of w.slots Bytes))
@@ -1339,7 +1339,7 @@ elements-block w names count g b known l c p node t plain makes m n x y z seat d
 
 pub calloc-follows : (w : Scene) (names : Names w) → length w.programs.parts.functions ≡ suc (length (setting_of w.programs).functions) → (g : AreSlots w.slots) (b : Running)
     (into m n : Temp) (node : NodeId) (t : TypeId) (at : Place) (known after : Knowledge) (blocks : Blocks) (lines : Lines)
-    → (w.programs.whole.kind node ≡ Safe) ⊎ (w.programs.whole.kind node ≡ Seq) → MakesBlocks (setting_of w.programs) t → Contains w.programs.sites (site.Pointee node t)
+    → (w.programs.whole.kind node ≡ Safe) ⊎ (w.programs.whole.kind node ≡ Seq) → MakesBlocks (setting_of w.programs) node t → Contains w.programs.sites (site.Pointee node t)
     → IsCuringAllocate (allocate.Calloc into m n node t at) (world_of w) known after lines
     → Follows w g b blocks known after (meaning.act (instr.Allocate (allocate.Calloc into m n node t at)) (around_of w b)) lines
 unfolding Line Then

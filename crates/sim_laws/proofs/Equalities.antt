@@ -1,5 +1,5 @@
 -- Two SAFE or SEQ pointers are equal exactly where their words say so: pointers that stand in their parts, or in one part.
-use Rattle.std.proofs.Common.{◌≡◌, ◌≢◌, ℕ, ◌<◌, ◌≤◌, ℤ, pos, negsuc, Bool, true, false, ◌&&◌, ◌||◌, length, nat_eq, slice_get, Some, refl, ap, sym, subst, ◌∙◌, arith, ◌^◌, ◌+ℤ◌}
+use Rattle.std.proofs.Common.{◌≡◌, ◌≢◌, ℕ, ◌<◌, ◌≤◌, ℤ, pos, negsuc, Bool, true, false, ◌&&◌, ◌||◌, List, length, nat_eq, slice_get, Some, refl, ap, sym, subst, ◌∙◌, arith, ◌^◌, ◌+ℤ◌}
 use Rattle.std.specs.Prelude.{◌==◌}
 use Rattle.std.specs.Ordering.{int_eq}
 use Rattle.std.proofs.lemmas.Int.{ints}
@@ -9,16 +9,19 @@ use Rattle.cc_base.specs.declared.kind.Kind.{Kind}
 use Rattle.cc_base.specs.declared.kind.Kind.TheVariants.{Safe, Seq, Rtti, Wild}
 use Rattle.cc_base.specs.declared.number.TypeId.{TypeId}
 use Rattle.c_types.specs.Sound.{IsWellFormed}
+use Rattle.kind_sites.specs.declared.site.Site.{Site}
 use Rattle.integers.specs.Words.{word, truth_word}
 use Rattle.src_mem.specs.Pointers.{Location, Pointer, Null, Number, At, Function, same_pointer, same_part}
 use Rattle.src_mem.specs.State as source
 use Rattle.src_mem.specs.State.{Setting}
 use Rattle.src_mem.specs.Checks.{AreComparable, between, of_one_part, stands_within, holds}
+use Rattle.src_mem.specs.Memory.{Planned}
 use Rattle.src_mem.specs.Outlines.{Outline, outlines_of, AreOutlines}
 use Rattle.src_mem.specs.Facts.{IsHeldIn, IsSafeAt, IsSequenceAt, IsFunctionOf}
 use Rattle.src_mem.proofs.Outlines.{has-outline}
 use Rattle.facts_kept.proofs.Agree.{first, second}
 use Rattle.facts_kept.proofs.Holds.{seq-stands}
+use Rattle.cil_form.specs.Told.{AreSitesTold}
 use Rattle.cured_code.specs.FlatState as flat
 use Rattle.sim_relation.specs.Ground.{Ground, place, natural, function_word, first_word, second_word}
 use Rattle.sim_relation.specs.Related.{Related, ground_of}
@@ -28,7 +31,7 @@ use Rattle.sim_checks.proofs.Addresses.{there}
 use Rattle.sim_checks.proofs.Sameness.{IsSpot, same-place, bool-same, eq-true, true-eq, eq-false}
 use Rattle.sim_memory.proofs.Finding.{sequence-here}
 use Rattle.cure_rules.specs.Setting.{is_wide_kind}
-use Rattle.sim_laws.specs.Plain.{IsPlainKind, AreAlikeWhereSized}
+use Rattle.sim_laws.specs.Plain.{IsPlainKind}
 use Rattle.sim_laws.proofs.Comparisons.{int-same}
 use Rattle.sim_laws.proofs.Ordering.{int-is, AreAlike, alike, words-same}
 
@@ -90,7 +93,7 @@ between-at low high (negsuc n) h = absurd (none low high n h)
     none low high n h = grind (arith, ints)
 
 module _ (w : Setting) (number_of : TypeId → ℕ) (s : source.State) (c : flat.State) (r : Related w number_of s c) (outlines : AreOutlines w (outlines_of s.memory))
-    (sound : IsWellFormed w.table) (laid : AreFunctionsLaid w number_of s c) (depth : ℕ) where
+    (sound : IsWellFormed w.table) (laid : AreFunctionsLaid w number_of s c) (depth : ℕ) (sites : List Site) (planned : List Planned) (told : AreSitesTold w.table planned sites) where
   abbrev g : Ground
   g = ground_of w number_of s c
 
@@ -191,9 +194,9 @@ module _ (w : Setting) (number_of : TypeId → ℕ) (s : source.State) (c : flat
       number m n e = cc (e)
 
   -- two of one part
-  parts-alike : (t u : TypeId) (a b : Location) → AreAlikeWhereSized w.table w.kind t u → IsHeldIn w s.memory depth Seq t (At a) → IsHeldIn w s.memory depth Seq u (At b)
+  parts-alike : (t u : TypeId) (a b : Location) → IsHeldIn w s.memory depth Seq t (At a) → IsHeldIn w s.memory depth Seq u (At b)
       → ((a.object == b.object) && same_part a.part b.part) ≡ true → nat_eq (first_word g Seq (At a)) (first_word g Seq (At b)) ≡ same_pointer (At a) (At b)
-  parts-alike t u a b class x y one = of x.value y.value
+  parts-alike t u a b x y one = of x.value y.value
     where
       object : a.object ≡ b.object
       object = true-eq a.object b.object (first _ _ one)
@@ -201,11 +204,14 @@ module _ (w : Setting) (number_of : TypeId → ℕ) (s : source.State) (c : flat
       low : a.part.low ≡ b.part.low
       low = true-eq a.part.low b.part.low (first _ _ (second (a.object == b.object) (same_part a.part b.part) one))
 
+      high : a.part.high ≡ b.part.high
+      high = true-eq a.part.high b.part.high (second (a.part.low == b.part.low) (a.part.high == b.part.high) (second (a.object == b.object) (same_part a.part b.part) one))
+
       start : place g b.object b.part.low ≡ place g a.object a.part.low
       start = ap (λ (n : ℕ). place g n b.part.low) (sym object) ∙ ap (place g a.object) (sym low)
 
       of : IsSequenceAt w (outlines_of s.memory) t a → IsSequenceAt w (outlines_of s.memory) u b → nat_eq (first_word g Seq (At a)) (first_word g Seq (At b)) ≡ same_pointer (At a) (At b)
-      of v z = with_distances (alike w sound (outlines_of s.memory) t u class a b v z low)
+      of v z = with_distances (alike w sound (outlines_of s.memory) sites planned told t u a b v z object low high)
         where
           small : place g a.object a.part.low < 2 ^ 33
           small = let h = (there w number_of s c r depth a.object a.part.low v.object v.located.found x.reaches v.typed.untagged).below in omega (arith, h)
@@ -220,25 +226,24 @@ module _ (w : Setting) (number_of : TypeId → ℕ) (s : source.State) (c : flat
 
   -- Of one part, or both within theirs
 
-  objects-alike : (k o : Kind) → IsPlainKind k → IsPlainKind o → (t u : TypeId) (a b : Location) → (k ≡ Seq → o ≡ Seq → AreAlikeWhereSized w.table w.kind t u)
-      → IsHeldIn w s.memory depth k t (At a) → IsHeldIn w s.memory depth o u (At b) → holds w s.memory (AreComparable (used k (At a)) (used o (At b))) ≡ true
+  objects-alike : (k o : Kind) → IsPlainKind k → IsPlainKind o → (t u : TypeId) (a b : Location) → IsHeldIn w s.memory depth k t (At a) → IsHeldIn w s.memory depth o u (At b) → holds w s.memory (AreComparable (used k (At a)) (used o (At b))) ≡ true
       → nat_eq (first_word g k (At a)) (first_word g o (At b)) ≡ same_pointer (At a) (At b)
-  objects-alike k o pk po t u a b class x y may = by (of_one_part (used k (At a)) (used o (At b))) refl may
+  objects-alike k o pk po t u a b x y may = by (of_one_part (used k (At a)) (used o (At b))) refl may
     where
-      together : (k o : Kind) → (k ≡ Seq → o ≡ Seq → AreAlikeWhereSized w.table w.kind t u) → IsPlainKind k → IsPlainKind o → IsHeldIn w s.memory depth k t (At a)
+      together : (k o : Kind) → IsPlainKind k → IsPlainKind o → IsHeldIn w s.memory depth k t (At a)
           → IsHeldIn w s.memory depth o u (At b) → of_one_part (used k (At a)) (used o (At b)) ≡ true
           → nat_eq (first_word g k (At a)) (first_word g o (At b)) ≡ same_pointer (At a) (At b)
-      together Seq Seq class pk po x y e = parts-alike t u a b (class refl refl) x y e
-      together Safe o class pk po x y e = absurd (cc (e))
-      together Seq Safe class pk po x y e = absurd (cc (e))
-      together Rtti o class pk po x y e = absurd pk
-      together Wild o class pk po x y e = absurd pk
-      together Seq Rtti class pk po x y e = absurd po
-      together Seq Wild class pk po x y e = absurd po
+      together Seq Seq pk po x y e = parts-alike t u a b x y e
+      together Safe o pk po x y e = absurd (cc (e))
+      together Seq Safe pk po x y e = absurd (cc (e))
+      together Rtti o pk po x y e = absurd pk
+      together Wild o pk po x y e = absurd pk
+      together Seq Rtti pk po x y e = absurd po
+      together Seq Wild pk po x y e = absurd po
 
       by : (q : Bool) → of_one_part (used k (At a)) (used o (At b)) ≡ q → (q || (stands_within k (At a) && stands_within o (At b))) ≡ true
           → nat_eq (first_word g k (At a)) (first_word g o (At b)) ≡ same_pointer (At a) (At b)
-      by true e h = together k o class pk po x y e
+      by true e h = together k o pk po x y e
       by false e h = spots-alike k o a b (standing k pk t a x (first _ _ h)) (standing o po u b y (second (stands_within k (At a)) _ h))
 
   -- a function has an address of its own
@@ -252,58 +257,57 @@ module _ (w : Setting) (number_of : TypeId → ℕ) (s : source.State) (c : flat
   positive n h e = omega (arith, h, e)
 
   -- THE WORDS OF EQUAL POINTERS
-  pub equal-alike : (k o : Kind) → IsPlainKind k → IsPlainKind o → (t u : TypeId) (q z : Pointer) → (k ≡ Seq → o ≡ Seq → AreAlikeWhereSized w.table w.kind t u)
-      → IsHeldIn w s.memory depth k t q → IsHeldIn w s.memory depth o u z → holds w s.memory (AreComparable (used k q) (used o z)) ≡ true
+  pub equal-alike : (k o : Kind) → IsPlainKind k → IsPlainKind o → (t u : TypeId) (q z : Pointer) → IsHeldIn w s.memory depth k t q → IsHeldIn w s.memory depth o u z → holds w s.memory (AreComparable (used k q) (used o z)) ≡ true
       → says_equal (is_wide_kind k || is_wide_kind o) (home_word g k q) (home_word g o z) (first_word g k q) (first_word g o z) ≡ same_pointer q z
-  equal-alike k o pk po t u Null Null class x y may =
+  equal-alike k o pk po t u Null Null x y may =
       level (is_wide_kind k || is_wide_kind o) (home_word g k Null) (home_word g o Null) 0 0 true (ap (λ (n : ℕ). nat_eq n 0) (home-null k ∙ sym (home-null o))) refl
-  equal-alike k Seq pk po t u Null (Number n) class x y may =
+  equal-alike k Seq pk po t u Null (Number n) x y may =
       differ (is_wide_kind k || true) (home_word g k Null) 0 0 n (λ e. y.value.0 (sym e))
-  equal-alike k Safe pk po t u Null (Number n) class x y may = absurd y.value
-  equal-alike k Safe pk po t u Null (At l) class x y may =
+  equal-alike k Safe pk po t u Null (Number n) x y may = absurd y.value
+  equal-alike k Safe pk po t u Null (At l) x y may =
       differ (is_wide_kind k || false) (home_word g k Null) (home_word g Safe (At l)) 0 (first_word g Safe (At l)) (λ e. positive _ (home-at Safe tt u l y) (sym e))
-  equal-alike k Seq pk po t u Null (At l) class x y may =
+  equal-alike k Seq pk po t u Null (At l) x y may =
       subst (λ (b : Bool). says_equal b (home_word g k Null) (home_word g Seq (At l)) 0 (first_word g Seq (At l)) ≡ false) (sym (or-true (is_wide_kind k)))
       (first-null (home_word g k Null) (home_word g Seq (At l)) 0 (first_word g Seq (At l)) (home-null k) (positive _ (home-at Seq tt u l y)))
-  equal-alike k Safe pk po t u Null (Function f) class x y may =
+  equal-alike k Safe pk po t u Null (Function f) x y may =
       differ (is_wide_kind k || false) (home_word g k Null) (function_word f) 0 (function_word f) (λ e. omega (arith, e))
-  equal-alike k Seq pk po t u Null (Function f) class x y may = absurd y.value
-  equal-alike Safe o pk po t u (Number m) z class x y may = absurd x.value
-  equal-alike Seq o pk po t u (Number m) Null class x y may = differ true 0 (home_word g o Null) m 0 (λ e. x.value.0 e)
-  equal-alike Seq Seq pk po t u (Number m) (Number n) class x y may = level true 0 0 m n (m == n) refl refl
-  equal-alike Seq Safe pk po t u (Number m) (Number n) class x y may = absurd y.value
-  equal-alike Seq o pk po t u (Number m) (At l) class x y may = first-null 0 (home_word g o (At l)) m (first_word g o (At l)) refl (positive _ (home-at o po u l y))
-  equal-alike Seq Safe pk po t u (Number m) (Function f) class x y may = first-null 0 (function_word f) m (function_word f) refl (λ e. omega (arith, e))
-  equal-alike Seq Seq pk po t u (Number m) (Function f) class x y may = absurd y.value
-  equal-alike Safe o pk po t u (At a) Null class x y may =
+  equal-alike k Seq pk po t u Null (Function f) x y may = absurd y.value
+  equal-alike Safe o pk po t u (Number m) z x y may = absurd x.value
+  equal-alike Seq o pk po t u (Number m) Null x y may = differ true 0 (home_word g o Null) m 0 (λ e. x.value.0 e)
+  equal-alike Seq Seq pk po t u (Number m) (Number n) x y may = level true 0 0 m n (m == n) refl refl
+  equal-alike Seq Safe pk po t u (Number m) (Number n) x y may = absurd y.value
+  equal-alike Seq o pk po t u (Number m) (At l) x y may = first-null 0 (home_word g o (At l)) m (first_word g o (At l)) refl (positive _ (home-at o po u l y))
+  equal-alike Seq Safe pk po t u (Number m) (Function f) x y may = first-null 0 (function_word f) m (function_word f) refl (λ e. omega (arith, e))
+  equal-alike Seq Seq pk po t u (Number m) (Function f) x y may = absurd y.value
+  equal-alike Safe o pk po t u (At a) Null x y may =
       differ (is_wide_kind o) (home_word g Safe (At a)) (home_word g o Null) (first_word g Safe (At a)) 0 (positive _ (home-at Safe tt t a x))
-  equal-alike Seq o pk po t u (At a) Null class x y may =
+  equal-alike Seq o pk po t u (At a) Null x y may =
       second-null (home_word g Seq (At a)) (home_word g o Null) (first_word g Seq (At a)) 0 (positive _ (home-at Seq tt t a x)) (home-null o)
-  equal-alike k Seq pk po t u (At a) (Number n) class x y may =
+  equal-alike k Seq pk po t u (At a) (Number n) x y may =
       subst (λ (b : Bool). says_equal b (home_word g k (At a)) 0 (first_word g k (At a)) n ≡ false) (sym (or-true (is_wide_kind k)))
       (second-null (home_word g k (At a)) 0 (first_word g k (At a)) n (positive _ (home-at k pk t a x)) refl)
-  equal-alike k Safe pk po t u (At a) (Number n) class x y may = absurd y.value
-  equal-alike Safe Safe pk po t u (At a) (Function f) class x y may =
+  equal-alike k Safe pk po t u (At a) (Number n) x y may = absurd y.value
+  equal-alike Safe Safe pk po t u (At a) (Function f) x y may =
       differ false (home_word g Safe (At a)) (function_word f) (first_word g Safe (At a)) (function_word f)
       (λ e. let d = standing Safe tt t a x refl in let h = d.far f (function-there u f y) in let i = d.word in omega (arith, h, i, e))
-  equal-alike Seq Safe pk po t u (At a) (Function f) class x y may =
+  equal-alike Seq Safe pk po t u (At a) (Function f) x y may =
       differ true (home_word g Seq (At a)) (function_word f) (first_word g Seq (At a)) (function_word f)
       (λ e. let d = standing Seq tt t a x (first _ _ may) in let h = d.far f (function-there u f y) in let i = d.word in omega (arith, h, i, e))
-  equal-alike k Seq pk po t u (At a) (Function f) class x y may = absurd y.value
-  equal-alike k o pk po t u (At a) (At b) class x y may =
+  equal-alike k Seq pk po t u (At a) (Function f) x y may = absurd y.value
+  equal-alike k o pk po t u (At a) (At b) x y may =
       level (is_wide_kind k || is_wide_kind o) (home_word g k (At a)) (home_word g o (At b)) (first_word g k (At a)) (first_word g o (At b)) (same_pointer (At a) (At b))
-      (eq-false _ 0 (positive _ (home-at k pk t a x)) ∙ sym (eq-false _ 0 (positive _ (home-at o po u b y)))) (objects-alike k o pk po t u a b class x y may)
-  equal-alike Seq o pk po t u (Function f) z class x y may = absurd x.value
-  equal-alike Safe o pk po t u (Function f) Null class x y may = differ (is_wide_kind o) (function_word f) (home_word g o Null) (function_word f) 0 (λ e. omega (arith, e))
-  equal-alike Safe Seq pk po t u (Function f) (Number n) class x y may = second-null (function_word f) 0 (function_word f) n (λ e. omega (arith, e)) refl
-  equal-alike Safe Safe pk po t u (Function f) (Number n) class x y may = absurd y.value
-  equal-alike Safe Safe pk po t u (Function f) (At b) class x y may =
+      (eq-false _ 0 (positive _ (home-at k pk t a x)) ∙ sym (eq-false _ 0 (positive _ (home-at o po u b y)))) (objects-alike k o pk po t u a b x y may)
+  equal-alike Seq o pk po t u (Function f) z x y may = absurd x.value
+  equal-alike Safe o pk po t u (Function f) Null x y may = differ (is_wide_kind o) (function_word f) (home_word g o Null) (function_word f) 0 (λ e. omega (arith, e))
+  equal-alike Safe Seq pk po t u (Function f) (Number n) x y may = second-null (function_word f) 0 (function_word f) n (λ e. omega (arith, e)) refl
+  equal-alike Safe Safe pk po t u (Function f) (Number n) x y may = absurd y.value
+  equal-alike Safe Safe pk po t u (Function f) (At b) x y may =
       differ false (function_word f) (home_word g Safe (At b)) (function_word f) (first_word g Safe (At b))
       (λ e. let d = standing Safe tt u b y refl in let h = d.far f (function-there t f x) in let i = d.word in omega (arith, h, i, e))
-  equal-alike Safe Seq pk po t u (Function f) (At b) class x y may =
+  equal-alike Safe Seq pk po t u (Function f) (At b) x y may =
       differ true (function_word f) (home_word g Seq (At b)) (function_word f) (first_word g Seq (At b))
       (λ e. let d = standing Seq tt u b y may in let h = d.far f (function-there t f x) in let i = d.word in omega (arith, h, i, e))
-  equal-alike Safe Safe pk po t u (Function f) (Function h) class x y may =
+  equal-alike Safe Safe pk po t u (Function f) (Function h) x y may =
       level false (function_word f) (function_word h) (function_word f) (function_word h) (f == h) (some f ∙ sym (some h)) (addresses f h)
     where
       some : (f : ℕ) → nat_eq (function_word f) 0 ≡ false
@@ -311,8 +315,8 @@ module _ (w : Setting) (number_of : TypeId → ℕ) (s : source.State) (c : flat
 
       addresses : (f h : ℕ) → nat_eq (function_word f) (function_word h) ≡ nat_eq f h
       addresses f h = grind (arith, nat_tests)
-  equal-alike Safe Seq pk po t u (Function f) (Function h) class x y may = absurd y.value
-  equal-alike Rtti o pk po t u q z class x y may = absurd pk
-  equal-alike Wild o pk po t u q z class x y may = absurd pk
-  equal-alike k Rtti pk po t u q z class x y may = absurd po
-  equal-alike k Wild pk po t u q z class x y may = absurd po
+  equal-alike Safe Seq pk po t u (Function f) (Function h) x y may = absurd y.value
+  equal-alike Rtti o pk po t u q z x y may = absurd pk
+  equal-alike Wild o pk po t u q z x y may = absurd pk
+  equal-alike k Rtti pk po t u q z x y may = absurd po
+  equal-alike k Wild pk po t u q z x y may = absurd po

@@ -21,6 +21,7 @@ pub mod Storing
 pub mod Aiming
 pub mod Making
 pub mod Tiles
+pub mod Together
 pub mod Shrinking
 pub mod Converting
 pub mod Plain

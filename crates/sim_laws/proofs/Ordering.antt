@@ -1,5 +1,4 @@
--- Two SEQ pointers of one part, to types of one class or to what has no size: their words are equal, ordered and so many elements apart as
--- their offsets are.
+-- Two SEQ pointers of one part: their words are equal, ordered and so many elements apart as their offsets are.
 use Rattle.std.proofs.Common.{◌≡◌, ℕ, ◌-◌, ◌%◌, ◌^◌, ◌<◌, ◌⊎◌, ⊎_elim, ℤ, pos, ◌+ℤ◌, ◌-ℤ◌, ◌<ℤ◌, ◌≤ℤ◌, Bool, true, false, not, List, length, nat_eq, refl, ap, sym, ◌∙◌, arith}
 use Rattle.std.specs.Prelude.{int_lt, int_le, slice_index_or, ◌*ℤ◌}
 use Rattle.std.specs.Ordering.{int_eq}
@@ -17,24 +16,27 @@ use Rattle.c_types.specs.Widths.{cell_width, before, stair, cured_distance}
 use Rattle.type_laws.proofs.OneClass.{move-alike}
 use Rattle.type_laws.proofs.Pointers.{class_turned}
 use Rattle.type_laws.proofs.Stairs.{HasSteps, IsWithin, Splits, splits, stair-is, stair-step, stair-suc, stair-mono, stair-within, stair-zero, same_le}
+use Rattle.kind_sites.specs.declared.site.Site.{Site}
 use Rattle.integers.specs.Words.{word, residue}
 use Rattle.integers.specs.Operators.{signed}
 use Rattle.integers.proofs.SignedLaws.{signed-word}
 use Rattle.integers.proofs.WordLaws.{residue-below}
 use Rattle.src_mem.specs.Pointers.{Location, distance}
+use Rattle.src_mem.specs.Memory.{Planned}
 use Rattle.src_mem.specs.State.{Setting}
 use Rattle.src_mem.specs.Outlines.{Outline}
 use Rattle.src_mem.specs.Facts.{IsSequenceAt, IsSameShifted}
 use Rattle.facts_kept.proofs.Blocks.{shifted-none}
+use Rattle.cil_form.specs.Told.{AreSitesTold}
 use Rattle.cil_facts.proofs.Homes.{complete-along}
 use Rattle.sim_relation.proofs.Bounds.{distance-is, step_of, cell-steps, agree-width, width-most, widths}
 use Rattle.sim_checks.proofs.Distances.{times-sum}
 use Rattle.sim_checks.proofs.Sequences.{long, ends}
 use Rattle.sim_checks.proofs.Sameness.{bool-same, eq-true, true-eq}
 use Rattle.sim_checks.proofs.Standing.{near-small}
-use Rattle.sim_laws.specs.Plain.{AreAlikeWhereSized}
 use Rattle.sim_laws.proofs.Comparisons.{int-same}
-use Rattle.sim_laws.proofs.Tiles.{still}
+use Rattle.sim_laws.proofs.Tiles.{still, widths-alike}
+use Rattle.sim_laws.proofs.Together.{RepetitionsAgree, repetitions-agree}
 
 -- Integers
 
@@ -210,16 +212,17 @@ module _ (w : Setting) (sound : IsWellFormed w.table) (outlines : List Outline) 
       by true f = absurd (let h = complete-along w sound l.made t v.made f in cc (h, none))
       by false f = still w l.made f (distance l)
 
-  -- to types that have sizes and are of one class
-  sized-alike : (t u : TypeId) → IsComplete w.table t → IsComplete w.table u → IsOfOneClass w.table w.kind t u → (k l : Location) → IsSequenceAt w outlines t k
+  -- to types that have sizes, and one endless repetition
+  sized-alike : (t u : TypeId) → IsComplete w.table t → IsComplete w.table u → RepetitionsAgree w t u → (k l : Location) → IsSequenceAt w outlines t k
       → IsSequenceAt w outlines u l → k.part.low ≡ l.part.low → AreAlike w k l
-  sized-alike t u ct cu class k l v z low = alike-by w k l (widths w.kind (cells_of w.table t) (distance k)) (widths w.kind (cells_of w.table u) (distance l)) (far-whole t ct k v) (far-whole u cu l z) low
+  sized-alike t u ct cu agree k l v z low = alike-by w k l (widths w.kind (cells_of w.table t) (distance k)) (widths w.kind (cells_of w.table u) (distance l)) (far-whole t ct k v) (far-whole u cu l z) low
       (λ h. let e = moves (distance k) in let f = distances-less w sound u cu (distance k) (distance l) (z.shifted cu) h in omega (arith, ints, e, f))
       (λ h. let e = moves (distance l) in let f = distances-less w sound t ct (distance l) (distance k) (v.shifted ct) h in omega (arith, ints, e, f))
       (λ h. moves (distance k) ∙ ap (widths w.kind (cells_of w.table u)) h)
     where
       moves : (d : ℤ) → widths w.kind (cells_of w.table t) d ≡ widths w.kind (cells_of w.table u) d
-      moves d = sym (distance-is w.table w.kind t ct (long w sound t ct) d) ∙ made-distance w sound u cu t class d
+      moves d = widths-alike w sound (cells_of w.table t) (cells_of w.table u) (ends w sound t ct).some (ends w sound u cu).some
+          (λ i. agree-width w (repeated_cell (cells_of w.table t) i) (repeated_cell (cells_of w.table u) i) (agree i)) d
 
   -- the first to what has no size
   none-alike : (t u : TypeId) → is_complete (entry_at w.table t) ≡ false → IsComplete w.table u → (k l : Location) → IsSequenceAt w outlines t k → IsSequenceAt w outlines u l
@@ -237,13 +240,13 @@ module _ (w : Setting) (sound : IsWellFormed w.table) (outlines : List Outline) 
       begin : widths w.kind (cells_of w.table u) (pos 0) ≡ pos 0
       begin = stair-zero (before w.kind (cells_of w.table u)) (step_of w.kind (cells_of w.table u)) (length (cells_of w.table u)) (steps w sound u cu)
 
-  -- TWO SEQ POINTERS IN PARTS THAT BEGIN AT ONE BYTE, to types of one class where both have a size
-  pub alike : (t u : TypeId) → AreAlikeWhereSized w.table w.kind t u → (k l : Location) → IsSequenceAt w outlines t k
-      → IsSequenceAt w outlines u l → k.part.low ≡ l.part.low → AreAlike w k l
-  alike t u class k l v z low = by (is_complete (entry_at w.table t)) refl (is_complete (entry_at w.table u)) refl
+  -- TWO SEQ POINTERS OF ONE PART
+  pub alike : (sites : List Site) (planned : List Planned) → AreSitesTold w.table planned sites → (t u : TypeId) (k l : Location) → IsSequenceAt w outlines t k
+      → IsSequenceAt w outlines u l → k.object ≡ l.object → k.part.low ≡ l.part.low → k.part.high ≡ l.part.high → AreAlike w k l
+  alike sites planned told t u k l v z object low high = by (is_complete (entry_at w.table t)) refl (is_complete (entry_at w.table u)) refl
     where
       by : (p : Bool) → is_complete (entry_at w.table t) ≡ p → (q : Bool) → is_complete (entry_at w.table u) ≡ q → AreAlike w k l
-      by true e true f = sized-alike t u e f (class e f) k l v z low
+      by true e true f = sized-alike t u e f (repetitions-agree w sound sites planned told outlines t u k l v z object low high e f) k l v z low
       by true e false f = alike-turned w l k (none-alike u t f e l k z v (sym low))
       by false e true f = none-alike t u e f k l v z low
       by false e false f =

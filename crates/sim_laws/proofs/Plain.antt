@@ -1,5 +1,5 @@
 -- Programs of plain code run as their three-address code: all laws of their instructions, of their frames and of their start are there.
-use Rattle.std.specs.Prelude.{All}
+use Rattle.std.specs.Prelude.{All, IsTrue}
 use Rattle.std.proofs.Common.{true, false, ◌≡◌, ◌≢◌, ◌⊎◌, ℕ, suc, ◌≤◌, inl, inr, ⊎_elim, List, [], ◌++◌, length, map, slice_get, Some, refl, ap, sym, subst, ◌∙◌, arith}
 use Rattle.std.proofs.lemmas.List.{length-map}
 use Rattle.std.specs.List.{Contains}
@@ -12,6 +12,7 @@ use Rattle.c_types.specs.declared.shape.TypeShape.{TypeShape}
 use Rattle.c_types.specs.declared.shape.TypeShape.TheVariants as shape
 use Rattle.c_types.specs.Table.{IsComplete, shape_at}
 use Rattle.c_types.specs.Cells.{holds_pointer}
+use Rattle.c_types.specs.Equality.{physically_equal}
 use Rattle.kind_sites.specs.declared.site.Site.TheVariants as site
 use Rattle.src_mem.specs.Memory.{Planned}
 use Rattle.src_mem.specs.Operations.{node_at, node_of_shape, pointee_of_shape}
@@ -54,7 +55,7 @@ use Rattle.sim_laws.specs.Held.{IsInCode}
 use Rattle.sim_laws.specs.Statements.{Lines, Follows, AllFollow, Laws}
 use Rattle.sim_laws.specs.Calls.{Callee, FrameLaws, InstructionLaws, parameter_types, scene_in}
 use Rattle.sim_laws.specs.Runs.{programs_of}
-use Rattle.sim_laws.specs.Plain.{AreAlikeWhereSized, IsPlainKind, IsPlainPointer, ArePlainPointers, IsPlainCallee, IsPlainCode, IsPlainHome, IsPlainObject, IsPlainProgram}
+use Rattle.sim_laws.specs.Plain.{IsPlainKind, IsPlainPointer, ArePlainPointers, IsPlainCallee, IsPlainCode, IsPlainHome, IsPlainObject, IsPlainProgram}
 use Rattle.sim_laws.specs.Frames.{PlainProgramsRunAlike}
 use Rattle.sim_laws.proofs.Run.{all-at, runs-alike}
 use Rattle.sim_laws.proofs.Tests.{tested}
@@ -126,21 +127,17 @@ module _ (w : Scene) (g : AreSlots w.slots) (b : Running) (whole : List Instr)
       (⊎_elim (λ e. e) (λ e. absurd (plain-tags (w.programs.whole.kind (node_at w.programs.whole.table t)) is_plain e))
       (names.solved.solution.each (site.Arith (node_at w.programs.whole.table t) at) told))
 
-  -- of the kinds and the types of two pointers
+  -- of the kinds of two pointers
   together-in : (t s : TypeId) → ArePlainPointers w.programs.whole.table w.programs.whole.kind t s → (m n : NodeId) (u v : TypeId) → IsPointer (world_of w) t m u → IsPointer (world_of w) s n v
       → IsPlainKind (w.programs.whole.kind m) × IsPlainKind (w.programs.whole.kind n)
-      × (w.programs.whole.kind m ≡ Seq → w.programs.whole.kind n ≡ Seq → AreAlikeWhereSized w.programs.whole.table w.programs.whole.kind u v)
   together-in t s h m n u v e f = subst (λ (x : TypeShape). Of x (shape.Pointer n v)) e (subst (λ (y : TypeShape). Of (shape_at w.programs.whole.table t) y) f h)
     where
       Of : TypeShape → TypeShape → Type 0
       Of x y = IsPlainKind (w.programs.whole.kind (node_of_shape x)) × IsPlainKind (w.programs.whole.kind (node_of_shape y))
-          × (w.programs.whole.kind (node_of_shape x) ≡ Seq → w.programs.whole.kind (node_of_shape y) ≡ Seq
-          → AreAlikeWhereSized w.programs.whole.table w.programs.whole.kind (pointee_of_shape x) (pointee_of_shape y))
 
-  -- what a pointer points to has a size
-  pointee-sized : (t : TypeId) (m n : NodeId) (u v : TypeId) → IsPointer (world_of w) t m u → IsPointer (world_of w) t n v → IsComplete w.programs.whole.table u
-      → IsComplete w.programs.whole.table v
-  pointee-sized t m n u v e f h = subst (IsComplete w.programs.whole.table) (ap pointee_of_shape (sym e ∙ f)) h
+  -- what a pointer points to
+  one-pointee : (t : TypeId) (m n : NodeId) (u v : TypeId) → IsPointer (world_of w) t m u → IsPointer (world_of w) t n v → u ≡ v
+  one-pointee t m n u v e f = ap pointee_of_shape (sym e ∙ f)
 
   orders-told : (which : Comparison) (t s : TypeId) (at : Place) → AreAmong w.programs.sites (sites_of_comparison w.programs.whole.table which t s at) → IsOrder which
       → Contains w.programs.sites (site.Arith (node_at w.programs.whole.table t) at) × Contains w.programs.sites (site.Arith (node_at w.programs.whole.table s) at)
@@ -171,10 +168,12 @@ module _ (w : Scene) (g : AreSlots w.slots) (b : Running) (whole : List Instr)
       of : Shaped (instr.Point (point.Difference into a t i s at)) (context_in w names 0 no_types)
           → Follows w g b blocks known after (meaning.act (instr.Point (point.Difference into a t i s at)) (around_of w b)) lines
       of z = difference-follows w names g b into a t i s at known after blocks lines
-          (λ m n u v e f. let x = sequence-in t at z.is.1.0 both.0 m u e in let y = sequence-in s at z.is.1.1.0 both.1 n v f in (
-            x,
-            y,
-            (together-in t s both m n u v e f).2 x y (pointee-sized t z.is.0.0 m z.is.0.2 u z.is.0.4.1 e z.is.0.6.1) (pointee-sized s z.is.0.1 n z.is.0.3 v z.is.0.5.1 f z.is.0.7.1),
+          (λ m n u v e f. let a = one-pointee t z.is.0.0 m z.is.0.2 u z.is.0.4.1 e in let b = one-pointee s z.is.0.1 n z.is.0.3 v z.is.0.5.1 f in (
+            sequence-in t at z.is.1.0 both.0 m u e,
+            sequence-in s at z.is.1.1.0 both.1 n v f,
+            subst (IsComplete w.programs.whole.table) b z.is.0.7.1,
+            subst (λ (x : TypeId). IsTrue (physically_equal w.programs.whole.table x v)) a
+                (subst (λ (y : TypeId). IsTrue (physically_equal w.programs.whole.table z.is.0.2 y)) b z.is.0.8),
           )) h
   point-follows (point.Compare into which a t i s at) inside known after blocks lines h = of (shaped (instr.Point (point.Compare into which a t i s at)) inside)
     where
@@ -187,7 +186,6 @@ module _ (w : Scene) (g : AreSlots w.slots) (b : Running) (whole : List Instr)
           (λ m n u v e f. let k = together-in t s both m n u v e f in (
             k.0,
             k.1,
-            k.2,
             λ order. let told = orders-told which t s at z.is.1 order in
                 (sequence-in t at told.0 both.0 m u e, sequence-in s at told.1 both.1 n v f),
           )) h

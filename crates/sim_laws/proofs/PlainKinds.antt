@@ -37,7 +37,7 @@ use Rattle.cil_facts.proofs.Functions.{each-got, each-left}
 use Rattle.sim_laws.specs.Held.{IsIn, IsInRow, IsInCode}
 use Rattle.sim_laws.specs.Points.{planned_at}
 use Rattle.sim_laws.specs.Plain.{IsPlainKind, IsPlainPointer, IsPlainObject, IsPlainCallee, IsPlainInstr, IsPlainCode, IsPlainHome, IsPlainProgram}
-use Rattle.sim_laws.specs.PlainKinds.{ArePlainKinds, ComparesWithinClasses, CodeComparesWithinClasses, IsOfPlainKinds}
+use Rattle.sim_laws.specs.PlainKinds.{ArePlainKinds, IsOfPlainKinds}
 use Rattle.sim_laws.proofs.Reaching.{plain-tags}
 use Rattle.sim_laws.proofs.Run.{all-at}
 use Rattle.sim_laws.proofs.Shaped.{Shaped, shaped-code, shaped-first}
@@ -91,39 +91,39 @@ module _ (k : Context) (kind : NodeId → Kind) (kinds : ArePlainKinds k.nodes k
   plain-target (target.Part (object.Static o) n u offset) blocks kept types t h = plain-object (object.Static o) (record { type = h.0.0; node = n }) h.0.1
   plain-target (target.Part (object.Variable o) n u offset) blocks kept types t h = plain-object (object.Variable o) (record { type = h.0.0; node = n }) h.0.1
 
-  -- each instruction in shape is plain, but for the conversions and comparisons that are excluded
-  plain-instr : (j : Instr) → Shaped j k → NumbersNone j → ComparesWithinClasses k.table kind j → IsPlainInstr k.table kind k.statics k.variables j
-  plain-instr (instr.Set i) z none compares = tt
-  plain-instr (instr.Calculate i) z none compares = tt
-  plain-instr (instr.Point (point.Move into p n way t at)) z none compares = pointer-kind t z.is.0.0 z.is.0.1 z.is.0.2
-  plain-instr (instr.Point (point.Difference into a t b s at)) z none compares =
-      (pointer-kind t z.is.0.0 z.is.0.2 z.is.0.4, pointer-kind s z.is.0.1 z.is.0.3 z.is.0.5, compares)
-  plain-instr (instr.Point (point.Compare into which a t b s at)) z none compares =
-      (pointer-kind t z.is.0.0 z.is.0.2 z.is.0.4, pointer-kind s z.is.0.1 z.is.0.3 z.is.0.5, compares)
-  plain-instr (instr.Point (point.IsNull into p t different)) z none compares = tt
-  plain-instr (instr.Point (point.Member into from outer t i inner u at)) z none compares = (untagged outer z.is.0.0, kinds inner z.is.0.1)
-  plain-instr (instr.Point (point.Decay into from outer array check inner element at)) z none compares = (untagged outer z.is.0.0, kinds inner z.is.0.1)
-  plain-instr (instr.Point (point.Address into from outer inner t)) z none compares = (untagged outer z.is.0.0, kinds inner z.is.0.1)
-  plain-instr (instr.Convert (convert.Integer into from t)) z none compares = tt
-  plain-instr (instr.Convert (convert.ToPointer into from t at)) z none compares = tt
-  plain-instr (instr.Convert (convert.FromPointer into from t s)) z none compares = absurd none
-  plain-instr (instr.Convert (convert.Pointer into from t s at)) z none compares =
+  -- each instruction in shape is plain, but for the conversions that are excluded
+  plain-instr : (j : Instr) → Shaped j k → NumbersNone j → IsPlainInstr k.table kind k.statics k.variables j
+  plain-instr (instr.Set i) z none = tt
+  plain-instr (instr.Calculate i) z none = tt
+  plain-instr (instr.Point (point.Move into p n way t at)) z none = pointer-kind t z.is.0.0 z.is.0.1 z.is.0.2
+  plain-instr (instr.Point (point.Difference into a t b s at)) z none =
       (pointer-kind t z.is.0.0 z.is.0.2 z.is.0.4, pointer-kind s z.is.0.1 z.is.0.3 z.is.0.5)
-  plain-instr (instr.Access (access.Load into from n t at)) z none compares = untagged n z.is.0.0
-  plain-instr (instr.Access (access.Store (target.Pointer p n) v t at assignment)) z none compares = plain-target (target.Pointer p n) z.blocks z.kept z.types t z.is.0.0
-  plain-instr (instr.Access (access.Store (target.Part o n u offset) v t at assignment)) z none compares = plain-target (target.Part o n u offset) z.blocks z.kept z.types t z.is.0.0
-  plain-instr (instr.Access (access.Clear o)) z none compares = plain-object o
-  plain-instr (instr.Access (access.Copy to to_place from n from_place t assignment)) z none compares = (untagged n z.is.0.0, plain-target to z.blocks z.kept z.types t z.is.0.3)
-  plain-instr (instr.Allocate (allocate.Malloc into n node t at)) z none compares = kinds node z.is.0.0
-  plain-instr (instr.Allocate (allocate.Calloc into m n node t at)) z none compares = kinds node z.is.0.0
-  plain-instr (instr.Call i) z none compares = subst (IsPlainCallee kind) (sym z.is.4.1) (plain-tags (kind z.is.0) (pointer-node i.ty z.is.0 z.is.1 z.is.4))
-  plain-instr (instr.Runtime i) z none compares = tt
-  plain-instr (instr.If' t shape code shape' other) z none compares = tt
-  plain-instr (instr.Block' shape code) z none compares = tt
-  plain-instr (instr.Loop' shape code) z none compares = tt
-  plain-instr (instr.Break n) z none compares = tt
-  plain-instr instr.Return z none compares = tt
-  plain-instr (instr.ReturnValue v t at) z none compares = tt
+  plain-instr (instr.Point (point.Compare into which a t b s at)) z none =
+      (pointer-kind t z.is.0.0 z.is.0.2 z.is.0.4, pointer-kind s z.is.0.1 z.is.0.3 z.is.0.5)
+  plain-instr (instr.Point (point.IsNull into p t different)) z none = tt
+  plain-instr (instr.Point (point.Member into from outer t i inner u at)) z none = (untagged outer z.is.0.0, kinds inner z.is.0.1)
+  plain-instr (instr.Point (point.Decay into from outer array check inner element at)) z none = (untagged outer z.is.0.0, kinds inner z.is.0.1)
+  plain-instr (instr.Point (point.Address into from outer inner t)) z none = (untagged outer z.is.0.0, kinds inner z.is.0.1)
+  plain-instr (instr.Convert (convert.Integer into from t)) z none = tt
+  plain-instr (instr.Convert (convert.ToPointer into from t at)) z none = tt
+  plain-instr (instr.Convert (convert.FromPointer into from t s)) z none = absurd none
+  plain-instr (instr.Convert (convert.Pointer into from t s at)) z none =
+      (pointer-kind t z.is.0.0 z.is.0.2 z.is.0.4, pointer-kind s z.is.0.1 z.is.0.3 z.is.0.5)
+  plain-instr (instr.Access (access.Load into from n t at)) z none = untagged n z.is.0.0
+  plain-instr (instr.Access (access.Store (target.Pointer p n) v t at assignment)) z none = plain-target (target.Pointer p n) z.blocks z.kept z.types t z.is.0.0
+  plain-instr (instr.Access (access.Store (target.Part o n u offset) v t at assignment)) z none = plain-target (target.Part o n u offset) z.blocks z.kept z.types t z.is.0.0
+  plain-instr (instr.Access (access.Clear o)) z none = plain-object o
+  plain-instr (instr.Access (access.Copy to to_place from n from_place t assignment)) z none = (untagged n z.is.0.0, plain-target to z.blocks z.kept z.types t z.is.0.3)
+  plain-instr (instr.Allocate (allocate.Malloc into n node t at)) z none = kinds node z.is.0.0
+  plain-instr (instr.Allocate (allocate.Calloc into m n node t at)) z none = kinds node z.is.0.0
+  plain-instr (instr.Call i) z none = subst (IsPlainCallee kind) (sym z.is.4.1) (plain-tags (kind z.is.0) (pointer-node i.ty z.is.0 z.is.1 z.is.4))
+  plain-instr (instr.Runtime i) z none = tt
+  plain-instr (instr.If' t shape code shape' other) z none = tt
+  plain-instr (instr.Block' shape code) z none = tt
+  plain-instr (instr.Loop' shape code) z none = tt
+  plain-instr (instr.Break n) z none = tt
+  plain-instr instr.Return z none = tt
+  plain-instr (instr.ReturnValue v t at) z none = tt
 
 -- A whole program
 
@@ -154,17 +154,17 @@ module _ (p : Program) (kind : NodeId → Kind) (shape : IsInShape p) (is : IsOf
   pub programs-plain : IsPlainProgram p kind
   programs-plain = record {
     initialisers = λ j inside. plain-instr (context_of p) kind is.kinds shapes (objects [] tt) j (shaped-first p shape j inside)
-        (none-code p.initialisers.0.items j is.numbers.initialisers inside) (is.initialisers j inside);
+        (none-code p.initialisers.0.items j is.numbers.initialisers inside);
     parameters = λ n d l. homes-of (slice_index_or p.functions n d) (shape.functions n d l);
-    functions = λ n d l. body-of (slice_index_or p.functions n d) (shape.functions n d l) (is.numbers.functions n d l) (is.functions n d l);
+    functions = λ n d l. body-of (slice_index_or p.functions n d) (shape.functions n d l) (is.numbers.functions n d l);
   }
     where
       homes-of : (f : Function) → IsFunctionInShape p f → All (λ (x : Parameter). IsPlainHome kind x.home) f.parameters
       homes-of f h = each-all (λ (x : Parameter). IsPlainHome kind x.home) f.parameters
           (plain-homes f.parameters (each-left (IsPlanInShape p) (named f.parameters) (map plan f.locals) h.variables))
 
-      body-of : (f : Function) → IsFunctionInShape p f → CodeNumbersNone f.body.0.items → CodeComparesWithinClasses p.types kind f.body.0.items
+      body-of : (f : Function) → IsFunctionInShape p f → CodeNumbersNone f.body.0.items
           → IsPlainCode p.types kind (map (λ (o : Static). plan o.planned) p.statics) (variables_of f) f.body.0.items
-      body-of f h none compares j inside =
+      body-of f h none j inside =
           plain-instr (context_in p f) kind is.kinds shapes (objects (variables_of f) h.variables) j
-          (shaped-code f.body.0.items j (context_in p f) 0 no_types no_types no_types h.body.shaped inside) (none-code f.body.0.items j none inside) (compares j inside)
+          (shaped-code f.body.0.items j (context_in p f) 0 no_types no_types no_types h.body.shaped inside) (none-code f.body.0.items j none inside)

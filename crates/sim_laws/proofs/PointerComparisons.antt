@@ -65,7 +65,7 @@ use Rattle.cure_rules.specs.Code.{Blocks}
 use Rattle.sim_laws.specs.Scenes.{Scene, Running, setting_of, world_of, around_of, context_of}
 use Rattle.sim_laws.specs.Points.{Point, IsLasting, Passed, ground_of}
 use Rattle.sim_laws.specs.Statements.{Lines, CodeOutcome, FlatOutcome, StatesEndAlike, Match, Follows}
-use Rattle.sim_laws.specs.Plain.{IsPlainKind, AreAlikeWhereSized}
+use Rattle.sim_laws.specs.Plain.{IsPlainKind}
 use Rattle.sim_laws.proofs.Guards.{passed-none, passed-then, passed-role, lasting-apart, lasting-other, role-there}
 use Rattle.sim_laws.proofs.Giving.{Gave, gave-past, Changed, changed-one, column-room}
 use Rattle.sim_laws.proofs.Names.{Names}
@@ -356,7 +356,6 @@ equality_lines true w k o v p q = sameness_lines (world_of w) k o v p q ++ flat_
 equality-gives : (w : Scene) (names : Names w) (g : AreSlots w.slots) (b : Running) (known after : Knowledge) (blocks : Blocks) (into a i : Temp) (l : code.Local) (c : flat.Local)
     (point : Point w g b known l c) (m n : NodeId) (u v : TypeId) (p q : ℕ) (x y : List Sure) (h : Points known a m u p x) (k : Points known i n v q y) (at : Place) (turned : Bool)
     → IsPlainKind (w.programs.whole.kind m) → IsPlainKind (w.programs.whole.kind n)
-    → (w.programs.whole.kind m ≡ Seq → w.programs.whole.kind n ≡ Seq → AreAlikeWhereSized w.programs.whole.table w.programs.whole.kind u v)
     → Takes (world_of w) into 1 → rules.Leaves known into (Some (an_integer (w.slots.column into) Exact int)) after → (first last : Lines)
     → Then (AreGot (world_of w) []) (AreChecks (work_of w.slots) (all_asked check.Same at (equated (w.programs.whole.kind m) (w.programs.whole.kind n) (pointer_slots p) (pointer_slots q)))) first
     → last ≡ equality_lines turned w (w.programs.whole.kind m) (w.programs.whole.kind n) (w.slots.column into) (pointer_slots p) (pointer_slots q)
@@ -365,7 +364,7 @@ equality-gives : (w : Scene) (names : Names w) (g : AreSlots w.slots) (b : Runni
     (AreComparable (used (w.programs.whole.kind m) (two-pointers w g b known l c point a i m n u v p q x y h k).left.pointer)
     (used (w.programs.whole.kind n) (two-pointers w g b known l c point a i m n u v p q x y h k).right.pointer) ∷ []) l.state)))
     (λ r. leaves (λ (e : code.Local). record e { temps = with_temp into r e.temps }) >> done Goes)) (run (first ++ last) (context_of w b) c)
-equality-gives w names g b known after blocks into a i l c point m n u v p q x y h k at turned plain_m plain_n class takes leave first last guarding last_is =
+equality-gives w names g b known after blocks into a i l c point m n u v p q x y h k at turned plain_m plain_n takes leave first last guarding last_is =
     subst (λ (f : FlatOutcome). Match w g b after blocks (given (equality turned L.pointer R.pointer (all_placed S (λ z. at) conditions l.state))) f) (sym (z.runs last))
     (guard-gives w g b known after blocks into l z.after z.point stop (all_placed S (λ z. at) conditions l.state) alike_stop (equality turned L.pointer R.pointer) (ended turned) last gives)
   where
@@ -447,8 +446,8 @@ equality-gives w names g b known after blocks into a i l c point m n u v p q x y
             ∙ ap (λ (j : ℕ). says_equal wide (home_word (ground_of w.programs l.state c.state) K L.pointer) (home_word (ground_of w.programs l.state c.state) O R.pointer) j (slot z.after q)) d.1
             ∙ ap (λ (j : ℕ). says_equal wide (home_word (ground_of w.programs l.state c.state) K L.pointer) (home_word (ground_of w.programs l.state c.state) O R.pointer)
             (first_word (ground_of w.programs l.state c.state) K L.pointer) j) e.1
-            ∙ equal-alike S w.programs.whole.node l.state c.state point.there.related point.there.facts.outlines names.solved.well_formed point.there.laid.functions b.depth K O plain_m plain_n u v
-            L.pointer R.pointer class L.held.held R.held.held may
+            ∙ equal-alike S w.programs.whole.node l.state c.state point.there.related point.there.facts.outlines names.solved.well_formed point.there.laid.functions b.depth w.programs.sites names.solved.made names.solved.told K O
+            plain_m plain_n u v L.pointer R.pointer L.held.held R.held.held may
 
         lines : Lines
         lines = sameness_lines (world_of w) (w.programs.whole.kind m) (w.programs.whole.kind n) (w.slots.column into) (pointer_slots p) (pointer_slots q)
@@ -479,8 +478,7 @@ in_order S at q z s = all_placed S (λ x. at) (HasBase q ∷ HasBase z ∷ AreOf
 order-gives : (w : Scene) (names : Names w) (g : AreSlots w.slots) (b : Running) (known after : Knowledge) (blocks : Blocks) (into a i : Temp) (l : code.Local) (c : flat.Local)
     (point : Point w g b known l c) (m n : NodeId) (u v : TypeId) (p q : ℕ) (x y : List Sure) (h : Points known a m u p x) (k : Points known i n v q y) (at : Place) (which : Comparison)
     (order : Pointer → Pointer → Act Bool) → ((j d : Location) → order (At j) (At d) l.state ≡ Done (result_of which j.offset d.offset) l.state)
-    → w.programs.whole.kind m ≡ Seq → w.programs.whole.kind n ≡ Seq → AreAlikeWhereSized w.programs.whole.table w.programs.whole.kind u v
-    → Takes (world_of w) into 1 → rules.Leaves known into (Some (an_integer (w.slots.column into) Exact int)) after → (first last : Lines)
+    → w.programs.whole.kind m ≡ Seq → w.programs.whole.kind n ≡ Seq → Takes (world_of w) into 1 → rules.Leaves known into (Some (an_integer (w.slots.column into) Exact int)) after → (first last : Lines)
     → Then (AreGot (world_of w) []) (AreChecks (work_of w.slots) (asked check.Base at (IsNotZero (p + 1)) ∷ asked check.Base at (IsNotZero (q + 1))
     ∷ asked check.Same at (AreOfPart (pointer_slots p) (pointer_slots q)) ∷ [])) first
     → last ≡ comparison_lines which true w.slots.nought (w.slots.column into) p q
@@ -489,7 +487,7 @@ order-gives : (w : Scene) (names : Names w) (g : AreSlots w.slots) (b : Running)
     (λ z. order (two-pointers w g b known l c point a i m n u v p q x y h k).left.pointer (two-pointers w g b known l c point a i m n u v p q x y h k).right.pointer))
     (λ e. done (Integer (truth e)))))
     (λ r. leaves (λ (e : code.Local). record e { temps = with_temp into r e.temps }) >> done Goes)) (run (first ++ last) (context_of w b) c)
-order-gives w names g b known after blocks into a i l c point m n u v p q x y h k at which order order_is seq_m seq_n class takes leave first last guarding last_is =
+order-gives w names g b known after blocks into a i l c point m n u v p q x y h k at which order order_is seq_m seq_n takes leave first last guarding last_is =
     subst (λ (f : FlatOutcome). Match w g b after blocks (given (F (all_placed S (λ z. at) conditions l.state))) f) (sym (z.runs last))
     (guard-gives w g b known after blocks into l z.after z.point stop (all_placed S (λ z. at) conditions l.state) alike_stop F (λ e s. refl) last gives)
   where
@@ -611,6 +609,10 @@ order-gives w names g b known after blocks into a i l c point m n u v p q x y h 
             low : j.part.low ≡ d.part.low
             low = true-eq j.part.low d.part.low (agree.first _ _ (agree.second (j.object == d.object) (same_part j.part d.part) one))
 
+            high : j.part.high ≡ d.part.high
+            high = true-eq j.part.high d.part.high
+                (agree.second (j.part.low == d.part.low) (j.part.high == d.part.high) (agree.second (j.object == d.object) (same_part j.part d.part) one))
+
             value_j : IsSequenceAt S (outlines_of l.state.memory) u j
             value_j = held_j.value
 
@@ -618,7 +620,7 @@ order-gives w names g b known after blocks into a i l c point m n u v p q x y h 
             value_d = held_d.value
 
             distances : AreAlike S j d
-            distances = alike S names.solved.well_formed (outlines_of l.state.memory) u v class j d value_j value_d low
+            distances = alike S names.solved.well_formed (outlines_of l.state.memory) w.programs.sites names.solved.made names.solved.told u v j d value_j value_d object low high
 
             start : ℕ
             start = place gr j.object j.part.low
@@ -648,7 +650,6 @@ order-gives w names g b known after blocks into a i l c point m n u v p q x y h 
 pub compare-pointers-follows : (w : Scene) (names : Names w) (g : AreSlots w.slots) (b : Running) (into a : Temp) (which : Comparison) (t : TypeId) (i : Temp) (s : TypeId) (at : Place)
     (known after : Knowledge) (blocks : Blocks) (lines : Lines)
     → ((m n : NodeId) (u v : TypeId) → IsPointer (world_of w) t m u → IsPointer (world_of w) s n v → IsPlainKind (w.programs.whole.kind m) × IsPlainKind (w.programs.whole.kind n)
-    × (w.programs.whole.kind m ≡ Seq → w.programs.whole.kind n ≡ Seq → AreAlikeWhereSized w.programs.whole.table w.programs.whole.kind u v)
     × (IsOrder which → (w.programs.whole.kind m ≡ Seq) × (w.programs.whole.kind n ≡ Seq)))
     → IsCuringPoint (point.Compare into which a t i s at) (world_of w) known after lines
     → Follows w g b blocks known after (meaning.act (instr.Point (point.Compare into which a t i s at)) (around_of w b)) lines
@@ -661,7 +662,7 @@ compare-pointers-follows w names g b into a which t i s at known after blocks li
     (run lines (context_of w b) c)) (sym pointer_t)
     (subst (λ (h : TypeShape). Match w g b after blocks (given (of_kinds which (w.programs.whole.kind m) (w.programs.whole.kind (node_of_shape h)))) (run lines (context_of w b) c)) (sym pointer_s)
     (subst (λ (js : Lines). Match w g b after blocks (given (of_kinds which (w.programs.whole.kind m) (w.programs.whole.kind n))) (run js (context_of w b) c)) (sym lines_is)
-    (by which guard last_is sorts.3)))))
+    (by which guard last_is sorts.2)))))
   where
     S : Setting
     S = setting_of w.programs
@@ -677,7 +678,6 @@ compare-pointers-follows w names g b into a which t i s at known after blocks li
         (λ e. done (Integer (truth e)))
 
     sorts : IsPlainKind (w.programs.whole.kind m) × IsPlainKind (w.programs.whole.kind n)
-        × (w.programs.whole.kind m ≡ Seq → w.programs.whole.kind n ≡ Seq → AreAlikeWhereSized w.programs.whole.table w.programs.whole.kind u v)
         × (IsOrder which → (w.programs.whole.kind m ≡ Seq) × (w.programs.whole.kind n ≡ Seq))
     sorts = plain m n u v pointer_t pointer_s
 
@@ -698,7 +698,7 @@ compare-pointers-follows w names g b into a which t i s at known after blocks li
     ordered which order order_is (seq_m, seq_n) guard last_is value =
         subst (λ (o : Outcome source.Ending source.State Value). Match w g b after blocks (given o) (run (first ++ last) (context_of w b) c))
         (sym (value (w.programs.whole.kind m) (w.programs.whole.kind n) seq_m seq_n))
-        (order-gives w names g b known after blocks into a i l c point m n u v p q x y points_a points_i at which order order_is seq_m seq_n (sorts.2 seq_m seq_n) takes leave first last
+        (order-gives w names g b known after blocks into a i l c point m n u v p q x y points_a points_i at which order order_is seq_m seq_n takes leave first last
         (subst (λ (o : Kind). IsGuarded (world_of w) (order_by (world_of w) seat Seq P o Q None) Seq at first) seq_n
         (subst (λ (k : Kind). IsGuarded (world_of w) (order_by (world_of w) seat k P (w.programs.whole.kind n) Q None) k at first) seq_m guard)) last_is)
 
@@ -707,9 +707,9 @@ compare-pointers-follows w names g b into a which t i s at known after blocks li
         → (IsOrder which → (w.programs.whole.kind m ≡ Seq) × (w.programs.whole.kind n ≡ Seq))
         → Match w g b after blocks (given (of_kinds which (w.programs.whole.kind m) (w.programs.whole.kind n))) (run (first ++ last) (context_of w b) c)
     by comparison.Equal guard last_is sequence =
-        equality-gives w names g b known after blocks into a i l c point m n u v p q x y points_a points_i at false sorts.0 sorts.1 sorts.2 takes leave first last guard last_is
+        equality-gives w names g b known after blocks into a i l c point m n u v p q x y points_a points_i at false sorts.0 sorts.1 takes leave first last guard last_is
     by comparison.Different guard last_is sequence =
-        equality-gives w names g b known after blocks into a i l c point m n u v p q x y points_a points_i at true sorts.0 sorts.1 sorts.2 takes leave first last guard last_is
+        equality-gives w names g b known after blocks into a i l c point m n u v p q x y points_a points_i at true sorts.0 sorts.1 takes leave first last guard last_is
     by comparison.Less guard last_is sequence =
         ordered comparison.Less is_before (λ j d. refl) (sequence tt) guard last_is
         (λ k o e f. ap (λ (j : Kind). of_kinds comparison.Less j o) e ∙ ap (λ (j : Kind). of_kinds comparison.Less Seq j) f)

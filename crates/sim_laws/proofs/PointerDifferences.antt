@@ -1,6 +1,6 @@
 -- Differences of SEQ pointers, behind BASE and SAME.
 use Rattle.std.proofs.Common.{◌≡◌, ◌≢◌, ℕ, zero, suc, ◌+◌, ◌*◌, ◌/◌, ◌^◌, ◌<◌, ◌≤◌, inr, ℤ, pos, negsuc, neg_ℤ, ◌+ℤ◌, ◌-ℤ◌, Bool, true, false, ◌&&◌, List, [], ◌∷◌, length, slice_index, slice_set, Option, Some, None, refl, ap, sym, subst, ◌∙◌, arith, nat_eq, if◌then◌else◌, length-set, get_or-set_same, get_or-set_other}
-use Rattle.std.specs.Prelude.{int_div, ◌*ℤ◌, ◌==◌}
+use Rattle.std.specs.Prelude.{int_div, ◌*ℤ◌, ◌==◌, IsTrue}
 use Rattle.std.specs.Int.{int_rem_euclid}
 use Rattle.std.specs.Ordering.{int_eq}
 use Rattle.std.proofs.lemmas.Int.{ints}
@@ -14,9 +14,9 @@ use Rattle.cc_base.specs.declared.number.TypeId.{TypeId}
 use Rattle.cc_base.specs.declared.number.NodeId.{NodeId}
 use Rattle.cc_base.specs.declared.place.Place.{Place}
 use Rattle.c_types.specs.declared.shape.TypeShape.{TypeShape}
-use Rattle.c_types.specs.Table.{shape_at}
+use Rattle.c_types.specs.Table.{IsComplete, shape_at}
 use Rattle.c_types.specs.Layouts.{size_of}
-use Rattle.c_types.specs.Equality.{cells_of}
+use Rattle.c_types.specs.Equality.{cells_of, physically_equal}
 use Rattle.c_types.specs.Flows.{IsOfOneClass}
 use Rattle.c_types.specs.Widths as widths_of
 use Rattle.c_types.specs.Widths.{before}
@@ -37,7 +37,7 @@ use Rattle.src_mem.specs.Primitives.{difference}
 use Rattle.src_mem.specs.Operations.{node_of_shape, pointee_of_shape}
 use Rattle.src_mem.specs.Values.{difference_value}
 use Rattle.src_mem.specs.Outlines.{outlines_of}
-use Rattle.src_mem.specs.Facts.{IsHeldIn, IsSequenceAt}
+use Rattle.src_mem.specs.Facts.{IsHeldIn, IsSequenceAt, IsValueOf}
 use Rattle.facts_kept.specs.Kept.{AllHold}
 use Rattle.facts_kept.proofs.Agree as agree
 use Rattle.facts_kept.proofs.Places.{value-class}
@@ -65,7 +65,8 @@ use Rattle.sim_relation.proofs.Bounds.{widths}
 use Rattle.sim_checks.specs.Rows.{IsChecked}
 use Rattle.sim_checks.specs.Comparing.{used}
 use Rattle.sim_checks.proofs.Pointing.{base-compared}
-use Rattle.sim_checks.proofs.Sameness.{true-eq}
+use Rattle.sim_checks.specs.Moving.{all_hold}
+use Rattle.sim_checks.proofs.Sameness.{true-eq, parts-alike}
 use Rattle.sim_checks.proofs.Sequences as sequences
 use Rattle.sim_checks.proofs.Sequences.{small, some-size}
 use Rattle.sim_checks.proofs.Differences.{differences-compared, rem-euclid}
@@ -79,7 +80,7 @@ use Rattle.cure_rules.specs.Code.{Blocks}
 use Rattle.sim_laws.specs.Scenes.{Scene, Running, setting_of, world_of, around_of, context_of}
 use Rattle.sim_laws.specs.Points.{IsLasting, Passed, ground_of}
 use Rattle.sim_laws.specs.Statements.{Lines, CodeOutcome, FlatOutcome, StatesEndAlike, Match, Follows}
-use Rattle.sim_laws.proofs.Guards.{lasting-other}
+use Rattle.sim_laws.proofs.Guards.{lasting-other, passed-none}
 use Rattle.sim_laws.proofs.Giving.{Gave, Changed, changed-one, column-room}
 use Rattle.sim_laws.proofs.Names.{Names}
 use Rattle.sim_laws.proofs.Sets.{gave-integer}
@@ -91,6 +92,7 @@ use Rattle.sim_laws.proofs.Accessing.{all-held}
 use Rattle.sim_laws.proofs.Storing.{as-address}
 use Rattle.sim_laws.proofs.PointerWords.{seat-apart}
 use Rattle.sim_laws.proofs.Ordering.{stair-moved, IsFar, far-whole}
+use Rattle.sim_laws.proofs.Together.{class-alike, repetitions-agree}
 
 -- Integers
 
@@ -211,7 +213,7 @@ size-seat w g into takes size lines got e = by (nat_eq size.value 1) got e
 pub difference-follows : (w : Scene) (names : Names w) (g : AreSlots w.slots) (b : Running) (into a : Temp) (t : TypeId) (i : Temp) (s : TypeId) (at : Place) (known after : Knowledge)
     (blocks : Blocks) (lines : Lines)
     → ((m n : NodeId) (u v : TypeId) → IsPointer (world_of w) t m u → IsPointer (world_of w) s n v
-    → (w.programs.whole.kind m ≡ Seq) × (w.programs.whole.kind n ≡ Seq) × IsOfOneClass w.programs.whole.table w.programs.whole.kind u v)
+    → (w.programs.whole.kind m ≡ Seq) × (w.programs.whole.kind n ≡ Seq) × IsComplete w.programs.whole.table v × IsTrue (physically_equal w.programs.whole.table u v))
     → IsCuringPoint (point.Difference into a t i s at) (world_of w) known after lines
     → Follows w g b blocks known after (meaning.act (instr.Point (point.Difference into a t i s at)) (around_of w b)) lines
 unfolding Line Then
@@ -230,7 +232,7 @@ difference-follows w names g b into a t i s at known after blocks lines plain
     S : Setting
     S = setting_of w.programs
 
-    sorts : (w.programs.whole.kind m ≡ Seq) × (w.programs.whole.kind n ≡ Seq) × IsOfOneClass w.programs.whole.table w.programs.whole.kind u v
+    sorts : (w.programs.whole.kind m ≡ Seq) × (w.programs.whole.kind n ≡ Seq) × IsComplete w.programs.whole.table v × IsTrue (physically_equal w.programs.whole.table u v)
     sorts = plain m n u v pointer_t pointer_s
 
     seq_m : w.programs.whole.kind m ≡ Seq
@@ -340,21 +342,56 @@ difference-follows w names g b into a t i s at known after blocks lines plain
     left d passed = subst (λ (j : Kind). IsChecked S w.programs.whole.node l.state c.state b.depth j u L.pointer (slot d) (pointer_slots p)) seq_m
         (checked-words w g b known l c d point passed a m u p L)
 
-    -- the second too is one to the first type
-    right : (d : flat.Local) → Passed w g c.slots d.slots → IsChecked S w.programs.whole.node l.state c.state b.depth Seq u R.pointer (slot d) (pointer_slots q)
-    right d passed = of (subst (λ (j : Kind). IsChecked S w.programs.whole.node l.state c.state b.depth j v R.pointer (slot d) (pointer_slots q)) seq_n
-        (checked-words w g b known l c d point passed i n v q R))
+    right : (d : flat.Local) → Passed w g c.slots d.slots → IsChecked S w.programs.whole.node l.state c.state b.depth Seq v R.pointer (slot d) (pointer_slots q)
+    right d passed = subst (λ (j : Kind). IsChecked S w.programs.whole.node l.state c.state b.depth j v R.pointer (slot d) (pointer_slots q)) seq_n
+        (checked-words w g b known l c d point passed i n v q R)
+
+    -- of one part, the second too is one to the first type
+    as-first : (j d : Location) → L.pointer ≡ At j → R.pointer ≡ At d → ((j.object == d.object) && same_part j.part d.part) ≡ true → (e : flat.Local)
+        → IsChecked S w.programs.whole.node l.state c.state b.depth Seq v R.pointer (slot e) (pointer_slots q)
+        → IsChecked S w.programs.whole.node l.state c.state b.depth Seq u R.pointer (slot e) (pointer_slots q)
+    as-first j d is_j is_d one e h = record {
+      related = h.related;
+      held = record {
+        value = value-class S names.solved.well_formed (outlines_of l.state.memory) Seq v u R.pointer (class_turned w.programs.whole.table w.programs.whole.kind u v class) h.held.value;
+        reaches = h.held.reaches;
+      };
+      words = h.words;
+    }
       where
-        of : IsChecked S w.programs.whole.node l.state c.state b.depth Seq v R.pointer (slot d) (pointer_slots q)
-            → IsChecked S w.programs.whole.node l.state c.state b.depth Seq u R.pointer (slot d) (pointer_slots q)
-        of h = record {
-          related = h.related;
-          held = record {
-            value = value-class S names.solved.well_formed (outlines_of l.state.memory) Seq v u R.pointer (class_turned w.programs.whole.table w.programs.whole.kind u v sorts.2) h.held.value;
-            reaches = h.held.reaches;
-          };
-          words = h.words;
-        }
+        parts : same_part j.part d.part ≡ true
+        parts = agree.second (j.object == d.object) (same_part j.part d.part) one
+
+        class : IsOfOneClass w.programs.whole.table w.programs.whole.kind u v
+        class = class-alike S names.solved.well_formed u v complete sorts.2
+            (repetitions-agree S names.solved.well_formed w.programs.sites names.solved.made names.solved.told (outlines_of l.state.memory) u v j d
+            (subst (IsValueOf S (outlines_of l.state.memory) Seq u) is_j (left c (passed-none w g c.slots)).held.value)
+            (subst (IsValueOf S (outlines_of l.state.memory) Seq v) is_d (right c (passed-none w g c.slots)).held.value)
+            (true-eq j.object d.object (agree.first (j.object == d.object) (same_part j.part d.part) one))
+            (true-eq j.part.low d.part.low (agree.first (j.part.low == d.part.low) (j.part.high == d.part.high) parts))
+            (true-eq j.part.high d.part.high (agree.second (j.part.low == d.part.low) (j.part.high == d.part.high) parts)) complete sorts.2) sorts.3
+
+    -- of two parts no number of elements lies between them
+    differences-alike : holds S l.state.memory (HasBase L.pointer) ≡ true → holds S l.state.memory (HasBase R.pointer) ≡ true
+        → all_hold w.programs.parts c.state.memory same (slot z.middle) ≡ holds S l.state.memory (AreElementsApart N (used Seq L.pointer) (used Seq R.pointer))
+    differences-alike one two = of (based-at L.pointer one) (based-at R.pointer two)
+      where
+        of : (j : Location) × (L.pointer ≡ At j) → (d : Location) × (R.pointer ≡ At d)
+            → all_hold w.programs.parts c.state.memory same (slot z.middle) ≡ holds S l.state.memory (AreElementsApart N (used Seq L.pointer) (used Seq R.pointer))
+        of (j, is_j) (d, is_d) = by ((j.object == d.object) && same_part j.part d.part) refl
+          where
+            by : (q : Bool) → ((j.object == d.object) && same_part j.part d.part) ≡ q
+                → all_hold w.programs.parts c.state.memory same (slot z.middle) ≡ holds S l.state.memory (AreElementsApart N (used Seq L.pointer) (used Seq R.pointer))
+            by true e = differences-compared S w.programs.whole.node l.state c.state w.programs.parts b.depth u names.solved.well_formed complete point.there.facts.outlines (slot z.middle)
+                L.pointer R.pointer P Q size at size_is (left z.middle z.passed) (as-first j d is_j is_d e z.middle (right z.middle z.passed)) one two
+            by false e =
+                ap (λ (q : Bool). q && all_hold w.programs.parts c.state.memory (all_asked check.Same at (elements_apart P Q (Some size))) (slot z.middle))
+                (parts-alike S w.programs.whole.node l.state c.state point.there.related point.there.facts.outlines w.programs.parts b.depth (slot z.middle) u v j d P Q
+                (subst (λ (q : Pointer). IsChecked S w.programs.whole.node l.state c.state b.depth Seq u q (slot z.middle) P) is_j (left z.middle z.passed))
+                (subst (λ (q : Pointer). IsChecked S w.programs.whole.node l.state c.state b.depth Seq v q (slot z.middle) Q) is_d (right z.middle z.passed)) ∙ e)
+                ∙ sym (ap (λ (q : Pointer). holds S l.state.memory (AreElementsApart N (used Seq q) (used Seq R.pointer))) is_j
+                ∙ ap (λ (q : Pointer). holds S l.state.memory (AreElementsApart N (used Seq (At j)) (used Seq q))) is_d
+                ∙ ap (λ (q : Bool). q && int_eq (int_rem_euclid (j.offset -ℤ d.offset) (pos N)) (pos 0)) e)
 
     alike_stop : StopsAlike stop (all_placed S (λ z. at) conditions l.state) l.state
     alike_stop = stops-then w.programs.parts c.state.memory (slot z.middle) S (λ z. at) l.state (asked check.Base at (IsNotZero (p + 1))) (asked check.Base at (IsNotZero (q + 1)) ∷ same)
@@ -362,14 +399,12 @@ difference-follows w names g b into a t i s at known after blocks lines plain
         (base-compared S w.programs.whole.node l.state c.state w.programs.parts b.depth u L.pointer (slot z.middle) P (left z.middle z.passed))
         (λ one. stops-then w.programs.parts c.state.memory (slot z.middle) S (λ z. at) l.state (asked check.Base at (IsNotZero (q + 1))) same (HasBase R.pointer)
         (AreElementsApart N (used Seq L.pointer) (used Seq R.pointer) ∷ []) refl refl
-        (base-compared S w.programs.whole.node l.state c.state w.programs.parts b.depth u R.pointer (slot z.middle) Q (right z.middle z.passed))
+        (base-compared S w.programs.whole.node l.state c.state w.programs.parts b.depth v R.pointer (slot z.middle) Q (right z.middle z.passed))
         (λ two. subst (λ (o : Outcome source.Ending source.State (Unit {0})). StopsAlike (first_false w.programs.parts c.state.memory same (slot z.middle)) o l.state)
         (sym (one-placed S (λ z. at) (AreElementsApart N (used Seq L.pointer) (used Seq R.pointer)) l.state))
         (stops-together w.programs.parts c.state.memory (slot z.middle) S l.state at same (AreElementsApart N (used Seq L.pointer) (used Seq R.pointer))
         (all-stop at (AreOfPart P Q ∷ elements_apart P Q (Some size)))
-        (none-false w.programs.parts c.state.memory same (slot z.middle)
-        ∙ differences-compared S w.programs.whole.node l.state c.state w.programs.parts b.depth u names.solved.well_formed complete point.there.facts.outlines (slot z.middle) L.pointer R.pointer
-        P Q size at size_is (left z.middle z.passed) (right z.middle z.passed) one two))))
+        (none-false w.programs.parts c.state.memory same (slot z.middle) ∙ differences-alike one two))))
 
     Goal : Outcome source.Ending source.State Value → FlatOutcome → Type 0
     Goal o f = Matches (Gave w g b known after into l z.after) (λ e s f d. StatesEndAlike w.programs e s f d.state) o f
@@ -405,8 +440,11 @@ difference-follows w names g b into a t i s at known after blocks lines plain
             held_j : IsHeldIn S l.state.memory b.depth Seq u (At j)
             held_j = subst (IsHeldIn S l.state.memory b.depth Seq u) is_j (left z.middle z.passed).held
 
+            second : (e : flat.Local) → Passed w g c.slots e.slots → IsChecked S w.programs.whole.node l.state c.state b.depth Seq u R.pointer (slot e) (pointer_slots q)
+            second e passed = as-first j d is_j is_d one e (right e passed)
+
             held_d : IsHeldIn S l.state.memory b.depth Seq u (At d)
-            held_d = subst (IsHeldIn S l.state.memory b.depth Seq u) is_d (right z.middle z.passed).held
+            held_d = subst (IsHeldIn S l.state.memory b.depth Seq u) is_d (second z.middle z.passed).held
 
             value_j : IsSequenceAt S (outlines_of l.state.memory) u j
             value_j = held_j.value
@@ -433,7 +471,7 @@ difference-follows w names g b into a t i s at known after blocks lines plain
             first_j = (left z.after kept).words.0 ∙ ap (first_word gr Seq) is_j ∙ ap (λ (e : ℤ). word (pos start +ℤ e)) far_j.is
 
             first_d : slot z.after q ≡ word (pos start +ℤ W d)
-            first_d = (right z.after kept).words.0 ∙ ap (first_word gr Seq) is_d ∙ ap (λ (e : ℤ). word (pos (place gr d.object d.part.low) +ℤ e)) far_d.is
+            first_d = (second z.after kept).words.0 ∙ ap (first_word gr Seq) is_d ∙ ap (λ (e : ℤ). word (pos (place gr d.object d.part.low) +ℤ e)) far_d.is
                 ∙ ap (λ (e : ℕ). word (pos e +ℤ W d)) (ap (λ (e : ℕ). place gr e d.part.low) (sym object) ∙ ap (place gr j.object) (sym low))
 
             of : Splits N (j.offset -ℤ d.offset) → Goal (F (Done tt l.state)) (run last (context_of w b) z.after)

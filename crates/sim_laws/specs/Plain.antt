@@ -10,10 +10,9 @@ use Rattle.cc_base.specs.declared.number.NodeId.{NodeId}
 use Rattle.cc_base.specs.declared.number.TypeId.{TypeId}
 use Rattle.c_types.specs.declared.shape.TypeShape.{TypeShape}
 use Rattle.c_types.specs.declared.shape.TypeShape.TheVariants as shape
-use Rattle.c_types.specs.Table.{Table, IsComplete, shape_at}
-use Rattle.c_types.specs.Flows.{IsOfOneClass}
+use Rattle.c_types.specs.Table.{Table, shape_at}
 use Rattle.src_mem.specs.Memory.{Planned}
-use Rattle.src_mem.specs.Operations.{node_at, pointee_at}
+use Rattle.src_mem.specs.Operations.{node_at}
 use Rattle.cil_form.specs.declared.number.Object.{Object}
 use Rattle.cil_form.specs.declared.instr.Access.{Access}
 use Rattle.cil_form.specs.declared.instr.Access.TheVariants as access
@@ -45,19 +44,9 @@ IsPlainKind other = ⊥
 abbrev pub IsPlainPointer : Table → (NodeId → Kind) → TypeId → Type 0
 IsPlainPointer table kind t = IsPlainKind (kind (node_at table t))
 
--- t and u are of one class, if both have a size
-abbrev pub AreAlikeWhereSized : Table → (NodeId → Kind) → TypeId → TypeId → Type 0
-AreAlikeWhereSized table kind t u = IsComplete table t → IsComplete table u → IsOfOneClass table kind t u
-
--- Where pointers of the types t and s are both SEQ, they point to types of one class, or one of them to what has no size. C has them point to
--- compatible types (6.5.6, 6.5.8, 6.5.9), or one of them to `void`.
-abbrev pub SequencesPointToOneClass : Table → (NodeId → Kind) → TypeId → TypeId → Type 0
-SequencesPointToOneClass table kind t s = kind (node_at table t) ≡ Seq → kind (node_at table s) ≡ Seq
-    → AreAlikeWhereSized table kind (pointee_at table t) (pointee_at table s)
-
--- pointers of both types are SAFE or SEQ, and two SEQ ones point to types of one class, or one of them to what has no size
+-- pointers of both types are SAFE or SEQ
 abbrev pub ArePlainPointers : Table → (NodeId → Kind) → TypeId → TypeId → Type 0
-ArePlainPointers table kind t s = IsPlainPointer table kind t × IsPlainPointer table kind s × SequencesPointToOneClass table kind t s
+ArePlainPointers table kind t s = IsPlainPointer table kind t × IsPlainPointer table kind s
 
 abbrev pub IsPlainConvert : Table → (NodeId → Kind) → Convert → Type 0
 IsPlainConvert table kind (convert.Integer into from t) = ⊤

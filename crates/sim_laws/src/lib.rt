@@ -49,14 +49,12 @@ pub fn frames_follow()
 /// and from them, loads and stores of integers and pointers through pointers that aren't WILD or into parts of objects that are named, copies of
 /// structs and clearing where no tags are, calls of functions and through pointers to them that aren't WILD, `free`, `getchar`, `putchar`, `exit`,
 /// control and returns, and, where pointers are SAFE or SEQ, of `&`, members, arrays that decay, moves, comparisons, differences, conversions,
-/// `malloc` and `calloc`; two SEQ pointers that are compared or subtracted point to types of one class, or one of them to what has no size, and no
-/// parameter's home is WILD.
+/// `malloc` and `calloc`; no parameter's home is WILD.
 pub fn plain_programs_run_alike()
     ensures { PlainProgramsRunAlike }
 {}
 
-/// Which programs are plain by their kinds: those in shape of which each node is SAFE or SEQ, whose code converts no pointer to an integer, and
-/// which compare and subtract two SEQ pointers only where these point to types of one class, or one of them to what has no size.
+/// Which programs are plain by their kinds: those in shape of which each node is SAFE or SEQ, and whose code converts no pointer to an integer.
 pub fn programs_of_plain_kinds_are_plain()
     ensures { ProgramsOfPlainKindsArePlain }
 {}

@@ -20,6 +20,7 @@ use Rattle.src_mem.specs.State.{Setting}
 use Rattle.src_mem.specs.Outlines.{Outline, outlines_of, lives_of, LivesAt}
 use Rattle.src_mem.specs.Facts.{HoldType, IsTypedPlace, IsSequenceAt, IsPlaceAt, IsHeldIn, IsPlaceIn}
 use Rattle.src_mem.proofs.Outlines.{has-outline}
+use Rattle.src_mem.proofs.Right.{filled_part}
 use Rattle.cil_facts.proofs.Homes.{complete-along}
 use Rattle.cured_code.specs.FlatState as flat
 use Rattle.sim_relation.specs.Ground.{Ground, address, cells_in, place, natural, first_word}
@@ -93,7 +94,7 @@ module _ (w : Setting) (number_of : TypeId → ℕ) (s : source.State) (c : flat
             ap (λ z. pos (before w.kind v.object.cells l.part.low) +ℤ z)
             (move-alike w.table sound w.kind l.made t made complete v.made (distance l)
             ∙ distance-is w.table w.kind t complete (whole complete) (distance l) ∙ ap (widths w.kind (cells_of w.table t)) (apart at offset low))
-            ∙ sym (filled-run w v.object.cells l.part.low l.part.high t some (v.filled complete) (at - l.part.low) (omega (arith, to, high)))
+            ∙ sym (filled-run w v.object.cells l.part.low l.part.high t some (filled_part (v.filled complete)) (at - l.part.low) (omega (arith, to, high)))
             ∙ ap (λ k. pos (before w.kind v.object.cells k)) to
 
         none : is_complete (entry_at w.table t) ≡ false

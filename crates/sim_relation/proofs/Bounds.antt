@@ -26,6 +26,7 @@ use Rattle.src_mem.specs.State.{Setting}
 use Rattle.src_mem.specs.Checks.{InBounds, holds, fits_between}
 use Rattle.src_mem.specs.Outlines.{Outline, outlines_of}
 use Rattle.src_mem.specs.Facts.{IsSequenceAt, IsHeldIn, RepeatType, IsSameShifted}
+use Rattle.src_mem.proofs.Right.{filled_part}
 use Rattle.cured_code.specs.FlatState.{PlacedArea}
 use Rattle.sim_relation.specs.Ground.{Ground, ground, address, cells_in, place, first_word, second_word, third_word}
 
@@ -339,7 +340,7 @@ sequence-bounds w number_of memory areas depth t u l alike held complete ends ta
         ∙ ap (λ (k : ℕ). is_in_part k (word (pos low +ℤ x)) low high) (sym (word-small m (omega arith)))
         ∙ ap (λ (k : ℕ). is_in_part (word (pos m)) (word (pos low +ℤ x)) k high) (sym (word-small low (let h = inside v.object l.part.low v.located.found in omega arith)))
         ∙ ap (λ (k : ℕ). is_in_part (word (pos m)) (word (pos low +ℤ x)) (word (pos low)) k) (sym (word-small high (let h = inside v.object l.part.high v.located.found in omega arith)))
-        ∙ bounds-parts w t u (address g l.object) l.part.low l.part.high v.object.cells l.offset ends target as_wide v.located.ordered (v.filled complete) (v.shifted complete)
+        ∙ bounds-parts w t u (address g l.object) l.part.low l.part.high v.object.cells l.offset ends target as_wide v.located.ordered (filled_part (v.filled complete)) (v.shifted complete)
         (let a = v.least in let b = v.most in record { low = omega (arith, ints); high = omega (arith, ints) }) (λ i. inside v.object i v.located.found) small
       where
         g : Ground

@@ -33,7 +33,7 @@ use Rattle.src_mem.proofs.CopiesRight.{both_touched, from_bounds, to_bounds, cop
 use Rattle.kind_sites.specs.declared.site.Site.{Site}
 use Rattle.src_mem.specs.Outlines.{Outline, outlines_of}
 use Rattle.src_mem.specs.Facts.{HoldType, IsSequenceAt, IsSafeAt, IsTypedAt, IsHeldIn, IsSoundMemory}
-use Rattle.src_mem.proofs.Right.{MayTouch, touches, IsFirst, Begins, begins_first, second_true, first_of, distance_is, safe≢wild, seq≢wild, rtti≢wild}
+use Rattle.src_mem.proofs.Right.{filled_part, MayTouch, touches, IsFirst, Begins, begins_first, second_true, first_of, distance_is, safe≢wild, seq≢wild, rtti≢wild}
 
 -- where a data type holds a pointer, its cells begin one
 cell_there : (c : Cell) → is_some (pointer_in_cell c) ≡ true → IsFirst c
@@ -100,7 +100,7 @@ same_place cs x y size l some e = ap (λ k. slice_index_or cs (x % k) raw) l ∙
 sequence_there : (w : Setting) (outlines : List Outline) (t : TypeId) (l : Location) (v : IsSequenceAt w outlines t l) (at i : ℕ)
     → IsComplete w.table t → length (cells_of w.table t) ≡ size_of w.table t → Begins (cells_of w.table t) i → i + 8 ≤ length (cells_of w.table t)
     → l.offset ≡ pos at → l.part.low ≤ at → at + size_of w.table t ≤ l.part.high → Begins v.object.cells (at + i)
-sequence_there w outlines t l v at i complete sized b room offset low high = of ((v.filled complete).agree (at - l.part.low + i) (let s = sized in omega (arith, low, high, room, s)))
+sequence_there w outlines t l v at i complete sized b room offset low high = of ((filled_part (v.filled complete)).agree (at - l.part.low + i) (let s = sized in omega (arith, low, high, room, s)))
   where
     cs : List Cell
     cs = cells_of w.table t

@@ -2,6 +2,7 @@
 use Rattle.std.proofs.Common.{◌≡◌, ◌≢◌, ℕ, ◌+◌, ◌-◌, ◌%◌, ◌≤◌, ℤ, pos, negsuc, ◌+ℤ◌, ◌-ℤ◌, Bool, true, false, not, ◌&&◌, ◌||◌, List, [], ◌∷◌, length, length-take, take, nat_le, slice_get, Some, refl, ap, sym, subst, ◌∙◌, arith}
 use Rattle.std.specs.Prelude.{slice_index_or, is_some, ◌==◌}
 use lib.Pointwise.{pointwise_long}
+use native.Mathlib.Nat.{mod-eq_of_lt}
 use Rattle.std.proofs.lemmas.Bool.Decides.{nat_tests}
 use Rattle.std.proofs.lemmas.List.{length-replicate}
 use Rattle.flat_mem.specs.Bytes.{number}
@@ -23,7 +24,7 @@ use Rattle.src_mem.specs.State.{Setting}
 use Rattle.src_mem.specs.Checks.{Condition, NotNull, InBounds, InObject, holds, fits_between}
 use Rattle.kind_sites.specs.declared.site.Site.{Site}
 use Rattle.src_mem.specs.Outlines.{Outline, Life, LivesAt, outlines_of, lives_of}
-use Rattle.src_mem.specs.Facts.{IsSoundObject, IsSafeAt, IsTypedAt, IsSequenceAt, IsWildAt, IsFunctionOf, IsHeldIn, HoldType}
+use Rattle.src_mem.specs.Facts.{IsSoundObject, IsSafeAt, IsTypedAt, IsSequenceAt, IsWildAt, IsFunctionOf, IsHeldIn, HoldType, RepeatType, RepeatAlike}
 use Rattle.src_mem.proofs.Outlines.{has-outline}
 use Rattle.src_mem.proofs.Spots.{IsRight}
 
@@ -285,6 +286,14 @@ pointer_begins table t n u e = record {
 
 -- SEQ pointers to pointers
 
+-- a part that is a repetition again and again begins one
+pub filled_part : {w : Setting} {cells : List Cell} {low high : ℕ} {t : TypeId} → RepeatAlike w cells low high t → RepeatType w cells low high t
+filled_part {cells = cells} {low = low} {high = high} h = record {
+  agree = λ i l.
+      let e : i % (high - low) ≡ i = mod-eq_of_lt (omega (arith, l)) in
+      let x = h.agree (omega (arith, l)) i in (x.0, ap (λ k. slice_get cells (low + k)) (sym e) ∙ x.1, x.2);
+}
+
 pub distance_is : (low at : ℕ) → low ≤ at → pos at -ℤ pos low ≡ pos (at - low)
 distance_is low at h = grind (arith, nat_tests)
 
@@ -298,7 +307,7 @@ same_repeated cs i j l e =
 
 pub sequence_begins : (w : Setting) (outlines : List Outline) (t : TypeId) (n : NodeId) (u : TypeId) (l : Location) (v : IsSequenceAt w outlines t l) (at : ℕ)
     → shape_at w.table t ≡ shape.Pointer n u → l.offset ≡ pos at → l.part.low ≤ at → at + 8 ≤ l.part.high → Begins v.object.cells at
-sequence_begins w outlines t n u l v at e offset low high = of ((v.filled complete).agree (at - l.part.low) (omega (arith, low, high)))
+sequence_begins w outlines t n u l v at e offset low high = of ((filled_part (v.filled complete)).agree (at - l.part.low) (omega (arith, low, high)))
   where
     cs : List Cell
     cs = cells_of w.table t

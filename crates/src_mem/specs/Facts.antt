@@ -2,7 +2,7 @@
 -- type that it points to, of an object by whether it carries tags, and of how long objects live. Each step of a run keeps these
 -- facts, and the simulation of cured code rests on them. What is said of a pointer reads outlines and lives of objects alone, which
 -- a store, a clearing and a copy leave as they are; the end of a call changes lives.
-use Rattle.std.specs.Prelude.{◌≡◌, ◌≢◌, ℕ, ◌+◌, ◌%◌, ◌^◌, ◌<◌, ◌≤◌, ◌≤ℤ◌, ⊤, ℤ, pos, neg_ℤ, ◌+ℤ◌, true, List, [], map, length, slice_get, Some, IsTrue, IsFalse}
+use Rattle.std.specs.Prelude.{◌≡◌, ◌≢◌, ℕ, ◌+◌, ◌-◌, ◌%◌, ◌^◌, ◌<◌, ◌≤◌, ◌≤ℤ◌, ⊤, ℤ, pos, neg_ℤ, ◌+ℤ◌, true, List, [], map, length, slice_get, Some, IsTrue, IsFalse}
 use Rattle.std.specs.List.{Contains}
 use Rattle.cc_base.specs.declared.number.TypeId.{TypeId}
 use Rattle.cc_base.specs.declared.number.NodeId.{NodeId}
@@ -12,7 +12,8 @@ use Rattle.flat_mem.specs.Bytes.{number, AreBytes}
 use Rattle.integers.specs.Words.{residue}
 use Rattle.kind_sites.specs.declared.site.Site.{Site}
 use Rattle.kind_sites.specs.declared.site.Site.TheVariants as site
-use Rattle.c_types.specs.Table.{IsComplete, is_function}
+use Rattle.c_types.specs.declared.shape.TypeShape.TheVariants as shape
+use Rattle.c_types.specs.Table.{HasShape, IsComplete, is_function}
 use Rattle.c_types.specs.Layouts.{size_of}
 use Rattle.c_types.specs.Cells.{Cell, pointer, IsBetweenPointers}
 use Rattle.c_types.specs.Equality.{cells_of, repeated_cell}
@@ -34,6 +35,18 @@ pub record HoldType (w : Setting) (cells : List Cell) (at high : ℕ) (t : TypeI
 pub record RepeatType (w : Setting) (cells : List Cell) (low high : ℕ) (t : TypeId) : Type 0 where
   pub agree : (i : ℕ) → low + i < high
       → (c : Cell) × (slice_get cells (low + i) ≡ Some c) × CellsAgree w.table w.kind c (repeated_cell (cells_of w.table t) i)
+
+-- the cells from `low` up to `high`, again and again, are the endless repetition of a type
+pub record RepeatAlike (w : Setting) (cells : List Cell) (low high : ℕ) (t : TypeId) : Type 0 where
+  pub agree : low < high → (i : ℕ)
+      → (c : Cell) × (slice_get cells (low + i % (high - low)) ≡ Some c) × CellsAgree w.table w.kind c (repeated_cell (cells_of w.table t) i)
+
+-- the endless repetition of a type is that of what a pointer type with this node points to
+pub record IsMadeFor (w : Setting) (node : NodeId) (t : TypeId) : Type 0 where
+  pub pointer : TypeId
+  pub to : TypeId
+  pub is : HasShape w.table pointer (shape.Pointer node to)
+  pub agree : (i : ℕ) → CellsAgree w.table w.kind (repeated_cell (cells_of w.table to) i) (repeated_cell (cells_of w.table t) i)
 
 -- the endless repetition of a type is the same when it is shifted by a distance
 pub record IsSameShifted (w : Setting) (t : TypeId) (by : ℤ) : Type 0 where
@@ -100,8 +113,9 @@ wild_least = neg_ℤ (pos (2 ^ 40))
 abbrev pub wild_most : ℤ
 wild_most = pos (2 ^ 40)
 
--- SEQ: its part is filled by elements of what it points to, and it stands at one of them, if it moves on in these steps. What has
--- no size is `void`, to which it stands where its part begins; of that part nothing is said.
+-- SEQ: its part, again and again, is filled by elements of what it points to, and it stands at one of them, if it moves on in these
+-- steps. An empty part is that of a block, made for a pointer to such elements. So all pointers of one part move alike, also outside
+-- of it. What has no size is `void`, to which it stands where its part begins; of that part nothing is said.
 pub record IsSequenceAt (w : Setting) (outlines : List Outline) (t : TypeId) (l : Location) : Type 0 where
   pub object : Outline
   pub located : IsLocated outlines l object
@@ -109,7 +123,8 @@ pub record IsSequenceAt (w : Setting) (outlines : List Outline) (t : TypeId) (l 
   pub made : IsOfOneClass w.table w.kind l.made t
   pub least : sequence_least ≤ℤ distance l
   pub most : distance l ≤ℤ sequence_most
-  pub filled : IsComplete w.table t → RepeatType w object.cells l.part.low l.part.high t
+  pub filled : IsComplete w.table t → RepeatAlike w object.cells l.part.low l.part.high t
+  pub blank : IsComplete w.table t → l.part.low ≡ l.part.high → IsMadeFor w object.node t
   pub shifted : IsComplete w.table t → IsSameShifted w t (distance l)
   pub unmoved : (IsComplete w.table t → ⊥) → (cells_of w.table t ≡ []) × (distance l ≡ pos 0)
 

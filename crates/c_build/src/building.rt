@@ -54,7 +54,8 @@ pub fn build(alloc: Global, text: &[u8]) -> Result<Built, Fault>
 /// What was inferred of a text, with its cured program.
 fn build_inferred(alloc: Global, inferred: Inferred) -> Result<Built, Fault>
     requires { (text : List ℕ) × IsInferred text inferred.typed inferred.code inferred.solved }
-    ensures built { IfOk result (λ b. (text : List ℕ) → IsInferred text inferred.typed inferred.code inferred.solved
+    ensures built { IfOk result (λ b. (text : List ℕ)
+        → IsInferred text inferred.typed inferred.code inferred.solved
         → IsBuilt text b.typed b.code b.solved b.cured) }
     ensures wants { IfErr result (λ fault. fault ≡ IsNoMemory) }
 {

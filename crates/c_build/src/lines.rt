@@ -9,9 +9,11 @@ use std::alloc::Global;
 
 /// The lines of the kinds that were inferred of a text: one for each pointer type, and one for each home that is WILD.
 pub fn kinds(alloc: Global, inferred: &Inferred) -> Result<Vec<u8>, NoMemory>
-    requires { (text : List ℕ) × IsInferred text inferred.now.typed inferred.now.code inferred.now.solved }
+    requires { (text : List ℕ) × IsInferred text inferred.now.typed inferred.now.code
+        inferred.now.solved }
     ensures { IfOk result (λ lines. (text : List ℕ)
-        → IsInferred text inferred.now.typed inferred.now.code inferred.now.solved → HasKinds text lines.items) }
+        → IsInferred text inferred.now.typed inferred.now.code inferred.now.solved
+        → HasKinds text lines.items) }
 {
     report(alloc, &inferred.solved, inferred.typed.printed.as_slice())
 }

@@ -16,7 +16,8 @@ use cc_base::{Fault, Place};
 /// A scope begins.
 #[tactic(auto, unfolding(c_typing::specs::Declaring::entered))]
 pub(crate) fn enter(context: &mut Context) -> Result<(), Fault>
-    ensures { Answers (λ u. true) (lifted entered (state_of context.old)) result (state_of context.new) }
+    ensures { Answers (λ u. true) (lifted entered (state_of context.old)) result
+        (state_of context.new) }
 {
     context.scope.enter()?;
     Ok(())
@@ -24,7 +25,8 @@ pub(crate) fn enter(context: &mut Context) -> Result<(), Fault>
 
 /// A scope that was taken away goes on as the innermost one.
 pub(crate) fn go_on(context: &mut Context, level: Level) -> Result<(), Fault>
-    ensures { Answers (λ u. true) (lifted (in_scopes (going_on level) true) (state_of context.old)) result (state_of context.new) }
+    ensures { Answers (λ u. true) (lifted (in_scopes (going_on level) true) (state_of context.old))
+        result (state_of context.new) }
 {
     context.scope.go_on(level)?;
     Ok(())
@@ -33,7 +35,8 @@ pub(crate) fn go_on(context: &mut Context, level: Level) -> Result<(), Fault>
 /// The innermost scope ends; the file's never does.
 #[tactic(auto, unfolding(c_typing::specs::Declaring::left))]
 pub(crate) fn leave(context: &mut Context, at: Place) -> Result<(), Fault>
-    ensures { Answers (λ u. true) (lifted (left at true) (state_of context.old)) result (state_of context.new) }
+    ensures { Answers (λ u. true) (lifted (left at true) (state_of context.old)) result
+        (state_of context.new) }
 {
     if context.scope.depth() < 2 {
         return Err(no_room(at));

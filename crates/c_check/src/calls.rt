@@ -50,7 +50,8 @@ pub fn check(alloc: Global, unit: &Unit) -> Result<Typed, Fault>
     ensures only { IfOk result (λ t. (other : TypedTranslationUnit) → IsWellTyped t.types other
         → erased_unit other ≡ unit_view unit.now → other ≡ typed_unit_view t.unit) }
 
-    ensures nodes { IfOk result (λ t. t.nodes ≡ length (nodes_made (made_by_unit (typed_unit_view t.unit)))) }
+    ensures nodes { IfOk result (λ t. t.nodes ≡ length
+        (nodes_made (made_by_unit (typed_unit_view t.unit)))) }
     ensures printed { IfOk result (λ t. HasPrinted (typed_unit_view t.unit) t.printed) }
     ensures ordered { IfOk result (λ t. AreInOrder t.printed) }
     ensures limited { IfOk result (λ t. IsWithinLimits t.types (typed_unit_view t.unit)) }
@@ -58,13 +59,15 @@ pub fn check(alloc: Global, unit: &Unit) -> Result<Typed, Fault>
     ensures basic { IfOk result (λ t. IsBasic t.types) }
 
     // A unit of few tokens that is well typed over some table, and within its limits, is answered with that very tree.
-    ensures accepts { HasFewTokens (unit_view unit.now) → (T : Table) (whole : TypedTranslationUnit) → IsBasic T
+    ensures accepts { HasFewTokens (unit_view unit.now) → (T : Table) (whole : TypedTranslationUnit)
+        → IsBasic T
         → IsWellTyped T whole → IsWithinLimits T whole → erased_unit whole ≡ unit_view unit.now
         → IsAccepted whole result }
 
     // A rule that a refusal names is broken at its place.
     ensures refused { (p : At) (rule : Broken) → result ≡ Err (Refused p rule)
-        → (T : Table) × RefusesUnit T (unit_view unit.now) (known_of (before_unit (unit_view unit.now)))
+        → (T : Table) × RefusesUnit T (unit_view unit.now)
+        (known_of (before_unit (unit_view unit.now)))
         (Refused p rule) }
 {
     checked(alloc, unit)

@@ -50,7 +50,9 @@ const NOWHERE: Place = Place { line: 1, col: 1 };
 /// The parameters of a part that stands behind others, if it is a function part.
 #[tactic(auto, using(c_tree::proofs::TypedViewLaws::typed_views))]
 fn own_parameters(part: &TypedPart) -> Option<&[TypedParameter]>
-    ensures { (all : SeenParts) (outer : Option SeenParameters) → units.declares_parameters (typed_part_view part.now all) outer ≡ units.declares_parameters all (option_map (λ p. parameters_seen p.now) result) }
+    ensures { (all : SeenParts) (outer : Option SeenParameters)
+        → units.declares_parameters (typed_part_view part.now all) outer
+        ≡ units.declares_parameters all (option_map (λ p. parameters_seen p.now) result) }
 {
     match part {
         TypedPart::Array(_, _) => None,
@@ -65,7 +67,9 @@ fn nearest_parameters<'f>(
     parts: &'f [TypedPart],
     outer: Option<&'f [TypedParameter]>,
 ) -> Option<&'f [TypedParameter]>
-    ensures { option_map (λ p. parameters_seen p.now) result ≡ units.declares_parameters (added typed.NoPart (map typed_part_view parts.now)) (option_map (λ p. parameters_seen p.now) outer.entry) }
+    ensures { option_map (λ p. parameters_seen p.now) result
+        ≡ units.declares_parameters (added typed.NoPart (map typed_part_view parts.now))
+        (option_map (λ p. parameters_seen p.now) outer.entry) }
 {
     let mut rest = parts;
     let mut found = outer;
@@ -83,7 +87,9 @@ fn parameters_of<'f>(
     form: &'f TypedForm,
     outer: Option<&'f [TypedParameter]>,
 ) -> Option<&'f [TypedParameter]>
-    ensures { option_map (λ p. parameters_seen p.now) result ≡ units.parameters_of_form (typed_form_view form.now) (option_map (λ p. parameters_seen p.now) outer.entry) }
+    ensures { option_map (λ p. parameters_seen p.now) result
+        ≡ units.parameters_of_form (typed_form_view form.now)
+        (option_map (λ p. parameters_seen p.now) outer.entry) }
 {
     let outer = match form.stars.as_slice().split_first() {
         None => outer,
@@ -99,7 +105,9 @@ fn parameters_of_core<'f>(
     core: &'f TypedCore,
     found: Option<&'f [TypedParameter]>,
 ) -> Option<&'f [TypedParameter]>
-    ensures { option_map (λ p. parameters_seen p.now) result ≡ units.parameters_of_core (typed_core_view core.now) (option_map (λ p. parameters_seen p.now) found.entry) }
+    ensures { option_map (λ p. parameters_seen p.now) result
+        ≡ units.parameters_of_core (typed_core_view core.now)
+        (option_map (λ p. parameters_seen p.now) found.entry) }
 {
     match core {
         TypedCore::Names(_, _) => found,
@@ -150,7 +158,8 @@ fn body_in(
     level: Level,
     items: &[BlockItem],
 ) -> Result<Items<TypedBlockItem>, Fault>
-    ensures { Answers typed_block_view (judging.body brace (Some to) level (block_view items.now) (state_of context.old)) result (state_of context.new) }
+    ensures { Answers typed_block_view (judging.body brace (Some to) level (block_view items.now)
+        (state_of context.old)) result (state_of context.new) }
 {
     go_on(context, level)?;
     let around = Around {
@@ -172,7 +181,8 @@ fn body(
     level: Level,
     items: &[BlockItem],
 ) -> Result<Items<TypedBlockItem>, Fault>
-    ensures { Answers typed_block_view (judging.body brace to level (block_view items.now) (state_of context.old)) result (state_of context.new) }
+    ensures { Answers typed_block_view (judging.body brace to level (block_view items.now)
+        (state_of context.old)) result (state_of context.new) }
 {
     match to {
         Some(to) => body_in(context, brace, to, level, items),
@@ -189,7 +199,10 @@ fn body_of(
     level: Level,
     items: &[BlockItem],
 ) -> Result<Items<TypedBlockItem>, Fault>
-    ensures { Answers typed_block_view (judging.body brace (judging.result_of (shape_at context.old.types (declared_type (typed_declarator_view one.now)))) level (block_view items.now) (state_of context.old)) result (state_of context.new) }
+    ensures { Answers typed_block_view (judging.body brace
+        (judging.result_of (shape_at context.old.types
+        (declared_type (typed_declarator_view one.now)))) level (block_view items.now)
+        (state_of context.old)) result (state_of context.new) }
 {
     let to = result_of(shape_at(&context.types, one.ty));
     body(context, brace, to, level, items)
@@ -203,7 +216,9 @@ fn broken_by_definition(
     name: &Identifier,
     t: TypeId,
 ) -> Option<Fault>
-    ensures { result ≡ first_broken (definition_tests context.now.types (known_of (state_of context.now)) (storage_view storage) written name.now.bytes t name.now.place) }
+    ensures { result ≡ first_broken (definition_tests context.now.types
+        (known_of (state_of context.now))
+        (storage_view storage) written name.now.bytes t name.now.place) }
 {
     let what = declared_as(&context.types, storage, t);
     if context.is_redeclared(true, true, name, what) {
@@ -221,7 +236,9 @@ fn broken_by_definition(
 /// A unit defines no more than 65,535 functions. The answer is how many come before.
 #[tactic(auto, unfolding(c_unit_typing::specs::DefinitionJudging::counted))]
 fn counted(context: &mut Context, name: &Identifier) -> Result<usize, Fault>
-    ensures { Answers (λ number. number) (judging.counted name.now.place (place_among context.old.scope.scopes.defined name.now.bytes) (state_of context.old)) result (state_of context.new) }
+    ensures { Answers (λ number. number) (judging.counted name.now.place
+        (place_among context.old.scope.scopes.defined name.now.bytes) (state_of context.old)) result
+        (state_of context.new) }
 {
     match context.scope.function(name.bytes.as_slice()) {
         None => Err(no_room(name.place)),
@@ -241,7 +258,8 @@ fn counted(context: &mut Context, name: &Identifier) -> Result<usize, Fault>
 /// The name of a function is declared, and defined.
 #[tactic(auto, unfolding(c_unit_typing::specs::DefinitionJudging::defined))]
 fn define(context: &mut Context, name: &Identifier, t: TypeId) -> Result<(), Fault>
-    ensures { Answers (λ u. declared.Function t) (judging.defined name.now t (state_of context.old)) result (state_of context.new) }
+    ensures { Answers (λ u. declared.Function t) (judging.defined name.now t (state_of context.old))
+        result (state_of context.new) }
 {
     context.linked_name(name, Declared::Function(t))?;
     let alloc = context.scope.alloc();
@@ -257,7 +275,9 @@ fn define_as(
     base: &TypedSpecifiers,
     one: &TypedDeclarator,
 ) -> Result<(), Fault>
-    ensures { Answers (λ u. typed_declarator_view one.now) (judging.defined_as (option_copied name.entry) (typed_specifiers_view base.now) (typed_declarator_view one.now) (state_of context.old)) result (state_of context.new) }
+    ensures { Answers (λ u. typed_declarator_view one.now)
+        (judging.defined_as (option_copied name.entry) (typed_specifiers_view base.now)
+        (typed_declarator_view one.now) (state_of context.old)) result (state_of context.new) }
 {
     let Some(name) = name else {
         return Err(no_room(NOWHERE));
@@ -279,7 +299,14 @@ fn with_body(
     level: Level,
     f: &FunctionDefinition,
 ) -> Result<TypedFunction, Fault>
-    ensures { (before : TypedTranslationUnit) → Answers (λ made. typed.AndFunctionBody before (typed_specifiers_view made.specifiers) (typed_declarator_view made.declarator) made.brace (typed_block_view made.body)) (outcomes.next (judging.body f.now.brace (judging.result_of (shape_at context.old.types (declared_type (typed_declarator_view declarator)))) level (block_view f.now.body) (state_of context.old)) (λ list. outcomes.pure (typed.AndFunctionBody before (typed_specifiers_view specifiers) (typed_declarator_view declarator) f.now.brace list))) result (state_of context.new) }
+    ensures { (before : TypedTranslationUnit) → Answers (λ made. typed.AndFunctionBody before
+        (typed_specifiers_view made.specifiers) (typed_declarator_view made.declarator) made.brace
+        (typed_block_view made.body)) (outcomes.next (judging.body f.now.brace
+        (judging.result_of (shape_at context.old.types
+        (declared_type (typed_declarator_view declarator)))) level (block_view f.now.body)
+        (state_of context.old)) (λ list. outcomes.pure
+        (typed.AndFunctionBody before (typed_specifiers_view specifiers)
+        (typed_declarator_view declarator) f.now.brace list))) result (state_of context.new) }
 {
     let items = body_of(context, &declarator, f.brace, level, f.body.as_slice())?;
     Ok(TypedFunction {
@@ -296,7 +323,11 @@ pub(crate) fn definition(
     context: &mut Context,
     f: &FunctionDefinition,
 ) -> Result<TypedFunction, Fault>
-    ensures { (before : TypedTranslationUnit) → Answers (λ made. typed.AndFunctionBody before (typed_specifiers_view made.specifiers) (typed_declarator_view made.declarator) made.brace (typed_block_view made.body)) (judging.judge_definition before (specifiers_view f.now.specifiers) (declarator_view f.now.declarator) f.now.brace (block_view f.now.body) (state_of context.old)) result (state_of context.new) }
+    ensures { (before : TypedTranslationUnit) → Answers (λ made. typed.AndFunctionBody before
+        (typed_specifiers_view made.specifiers) (typed_declarator_view made.declarator) made.brace
+        (typed_block_view made.body)) (judging.judge_definition before
+        (specifiers_view f.now.specifiers) (declarator_view f.now.declarator) f.now.brace
+        (block_view f.now.body) (state_of context.old)) result (state_of context.new) }
 {
     let specifiers = context.specifiers(&f.specifiers, false)?;
     let name = declarator_name(&f.declarator);

@@ -20,7 +20,9 @@ use cc_base::{Fault, NoMemory, Place, Rule, TypeId};
 /// The condition of the statement whose keyword stands at the place is a scalar.
 #[tactic(auto, unfolding(c_unit_typing::specs::StatementJudging::tested))]
 pub(crate) fn try_condition(context: &Context, at: Place, c: &TypedExpr) -> Result<(), Fault>
-    ensures { (one : typed.TypedStatement) → Answers (λ u. one) (judging.tested at (typed_expr_view c.now) one (state_of context.now)) result (state_of context.now) }
+    ensures { (one : typed.TypedStatement) → Answers (λ u. one)
+        (judging.tested at (typed_expr_view c.now) one (state_of context.now)) result
+        (state_of context.now) }
 {
     if !is_scalar(shape_at(&context.types, c.ty())) {
         return Err(refusal(at, Rule::Mismatch));
@@ -35,7 +37,9 @@ pub(crate) fn try_condition_or_none(
     at: Place,
     c: &Option<Boxed<TypedExpr>>,
 ) -> Result<(), Fault>
-    ensures { (one : typed.TypedStatement) → Answers (λ u. one) (judging.tested_or_none at (option_map typed_expr_view c.now) one (state_of context.now)) result (state_of context.now) }
+    ensures { (one : typed.TypedStatement) → Answers (λ u. one)
+        (judging.tested_or_none at (option_map typed_expr_view c.now) one (state_of context.now))
+        result (state_of context.now) }
 {
     match c {
         None => Ok(()),
@@ -49,7 +53,8 @@ pub(crate) fn dropped(
     context: &mut Context,
     e: &Option<Expr>,
 ) -> Result<Option<Boxed<TypedExpr>>, Fault>
-    ensures { Answers (option_map typed_expr_view) (judging.dropped (option_map expr_view e.now) (state_of context.old)) result (state_of context.new) }
+    ensures { Answers (option_map typed_expr_view) (judging.dropped (option_map expr_view e.now)
+        (state_of context.old)) result (state_of context.new) }
 {
     match e {
         None => Ok(None),
@@ -68,7 +73,8 @@ pub(crate) fn returned(
     to: TypeId,
     e: &Option<Expr>,
 ) -> Result<Option<Boxed<TypedExpr>>, Fault>
-    ensures { Answers (option_map typed_expr_view) (judging.returned at to (option_map expr_view e.now) (state_of context.old)) result (state_of context.new) }
+    ensures { Answers (option_map typed_expr_view) (judging.returned at to
+        (option_map expr_view e.now) (state_of context.old)) result (state_of context.new) }
 {
     match e {
         None => {
@@ -91,7 +97,8 @@ pub(crate) fn promoted(
     at: Place,
     e: Boxed<TypedExpr>,
 ) -> Result<Boxed<TypedExpr>, NoMemory>
-    ensures { IfOk result (λ made. judging.promotion at (typed_expr_view e) (state_of context.now) ≡ Gives (typed_expr_view made) (state_of context.now)) }
+    ensures { IfOk result (λ made. judging.promotion at (typed_expr_view e) (state_of context.now)
+        ≡ Gives (typed_expr_view made) (state_of context.now)) }
 {
     match integer_at(&context.types, e.get().ty()) {
         None => Ok(e),
@@ -102,7 +109,9 @@ pub(crate) fn promoted(
 /// What the `switch` at the place is on is an integer; `from` is its type before it is promoted.
 #[tactic(auto, unfolding(c_unit_typing::specs::StatementJudging::switched))]
 pub(crate) fn try_integer(context: &Context, at: Place, from: TypeId) -> Result<(), Fault>
-    ensures { (c : typed.TypedExpr) (one : typed.TypedStatement) → type_of c ≡ from → Answers (λ u. one) (judging.switched at c one (state_of context.now)) result (state_of context.now) }
+    ensures { (c : typed.TypedExpr) (one : typed.TypedStatement) → type_of c ≡ from
+        → Answers (λ u. one) (judging.switched at c one (state_of context.now)) result
+        (state_of context.now) }
 {
     if !is_integer(shape_at(&context.types, from)) {
         return Err(refusal(at, Rule::Mismatch));

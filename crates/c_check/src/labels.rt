@@ -91,8 +91,12 @@ pub(crate) fn case_label(
     at: Place,
     e: &Expr,
 ) -> Result<(Boxed<TypedExpr>, i128), Fault>
-    ensures answers { (list : TypedBlockItems) → HoldsLabels labels.old list → Answers (λ c. typed.AndCase list at (typed_expr_view c.0) c.1) (judging.case_label on at (expr_view e.now) list (state_of context.old)) result (state_of context.new) }
-    ensures labels { IfOk result (λ c. labels.new ≡ record labels.old { values = labels.old.values ++ c.1 ∷ [] }) }
+    ensures answers { (list : TypedBlockItems) → HoldsLabels labels.old list
+        → Answers (λ c. typed.AndCase list at (typed_expr_view c.0) c.1)
+        (judging.case_label on at (expr_view e.now) list (state_of context.old)) result
+        (state_of context.new) }
+    ensures labels { IfOk result (λ c. labels.new ≡ record labels.old
+        { values = labels.old.values ++ c.1 ∷ [] }) }
 {
     let (e, value) = context.constant(e)?;
     let Some(value) = label_value(context, on, value) else {

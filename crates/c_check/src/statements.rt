@@ -52,7 +52,8 @@ fn break_from(
     around: Around,
     at: Place,
 ) -> Result<Boxed<TypedStatement>, Fault>
-    ensures { Answers typed_statement_view (judging.judge_statement (around_view around) (tree.Break at) (state_of context.old)) result (state_of context.new) }
+    ensures { Answers typed_statement_view (judging.judge_statement (around_view around)
+        (tree.Break at) (state_of context.old)) result (state_of context.new) }
 {
     if !around.breakable {
         return Err(refusal(at, Rule::Mismatch));
@@ -67,7 +68,8 @@ fn continue_in(
     around: Around,
     at: Place,
 ) -> Result<Boxed<TypedStatement>, Fault>
-    ensures { Answers typed_statement_view (judging.judge_statement (around_view around) (tree.Continue at) (state_of context.old)) result (state_of context.new) }
+    ensures { Answers typed_statement_view (judging.judge_statement (around_view around)
+        (tree.Continue at) (state_of context.old)) result (state_of context.new) }
 {
     if !around.in_loop {
         return Err(refusal(at, Rule::Mismatch));
@@ -83,7 +85,9 @@ fn return_from(
     at: Place,
     e: &Option<Expr>,
 ) -> Result<Boxed<TypedStatement>, Fault>
-    ensures { Answers typed_statement_view (judging.judge_statement (around_view around) (tree.Return at (option_map expr_view e.now)) (state_of context.old)) result (state_of context.new) }
+    ensures { Answers typed_statement_view (judging.judge_statement (around_view around)
+        (tree.Return at (option_map expr_view e.now)) (state_of context.old)) result
+        (state_of context.new) }
 {
     let v = returned(context, at, around.result, e)?;
     Ok(boxed(context, TypedStatement::Return(at, unboxed(v)))?)
@@ -98,7 +102,9 @@ fn block(
     brace: Place,
     items: &[BlockItem],
 ) -> Result<Boxed<TypedStatement>, Fault>
-    ensures { Answers typed_statement_view (judging.judge_statement (around_view around) (tree.Block brace (block_view items.now)) (state_of context.old)) result (state_of context.new) }
+    ensures { Answers typed_statement_view (judging.judge_statement (around_view around)
+        (tree.Block brace (block_view items.now)) (state_of context.old)) result
+        (state_of context.new) }
 {
     enter(context)?;
     let list = block_items(context, around, None, items)?;
@@ -115,7 +121,9 @@ fn substatement(
     at: Place,
     s: &Statement,
 ) -> Result<Boxed<TypedStatement>, Fault>
-    ensures { Answers typed_statement_view (judging.within at (judging.judge_statement (around_view around) (statement_view s.now)) (state_of context.old)) result (state_of context.new) }
+    ensures { Answers typed_statement_view (judging.within at
+        (judging.judge_statement (around_view around) (statement_view s.now))
+        (state_of context.old)) result (state_of context.new) }
 {
     enter(context)?;
     let one = statement(context, around, s)?;
@@ -134,7 +142,9 @@ fn if_alone(
     paren: Place,
     c: &Expr,
 ) -> Result<Boxed<TypedStatement>, Fault>
-    ensures { Answers typed_statement_view (judging.judge_statement (around_view around) (tree.If at paren (expr_view c.now) (statement_view s.now)) (state_of context.old)) result (state_of context.new) }
+    ensures { Answers typed_statement_view (judging.judge_statement (around_view around)
+        (tree.If at paren (expr_view c.now) (statement_view s.now)) (state_of context.old)) result
+        (state_of context.new) }
 {
     enter(context)?;
     let test = context.expr(c)?;
@@ -157,7 +167,9 @@ fn switch_block(
     brace: Place,
     items: &[BlockItem],
 ) -> Result<Items<TypedBlockItem>, Fault>
-    ensures { Answers typed_block_view (judging.within brace (judging.judge_block_items (around_view around) (Some on) (block_view items.now)) (state_of context.old)) result (state_of context.new) }
+    ensures { Answers typed_block_view (judging.within brace
+        (judging.judge_block_items (around_view around) (Some on) (block_view items.now))
+        (state_of context.old)) result (state_of context.new) }
 {
     enter(context)?;
     let list = block_items(context, around, Some(on), items)?;
@@ -177,7 +189,9 @@ fn switch(
     e: &Expr,
     brace: Place,
 ) -> Result<Boxed<TypedStatement>, Fault>
-    ensures { Answers typed_statement_view (judging.judge_statement (around_view around) (tree.Switch at paren (expr_view e.now) brace (block_view items.now)) (state_of context.old)) result (state_of context.new) }
+    ensures { Answers typed_statement_view (judging.judge_statement (around_view around)
+        (tree.Switch at paren (expr_view e.now) brace (block_view items.now))
+        (state_of context.old)) result (state_of context.new) }
 {
     enter(context)?;
     let value = context.expr(e)?;
@@ -202,7 +216,9 @@ fn while_loop(
     paren: Place,
     c: &Expr,
 ) -> Result<Boxed<TypedStatement>, Fault>
-    ensures { Answers typed_statement_view (judging.judge_statement (around_view around) (tree.While at paren (expr_view c.now) (statement_view s.now)) (state_of context.old)) result (state_of context.new) }
+    ensures { Answers typed_statement_view (judging.judge_statement (around_view around)
+        (tree.While at paren (expr_view c.now) (statement_view s.now)) (state_of context.old))
+        result (state_of context.new) }
 {
     enter(context)?;
     let test = context.expr(c)?;
@@ -225,7 +241,9 @@ fn do_while(
     paren: Place,
     c: &Expr,
 ) -> Result<Boxed<TypedStatement>, Fault>
-    ensures { Answers typed_statement_view (judging.judge_statement (around_view around) (tree.DoWhile (statement_view s.now) at paren (expr_view c.now)) (state_of context.old)) result (state_of context.new) }
+    ensures { Answers typed_statement_view (judging.judge_statement (around_view around)
+        (tree.DoWhile (statement_view s.now) at paren (expr_view c.now)) (state_of context.old))
+        result (state_of context.new) }
 {
     enter(context)?;
     let one = substatement(context, around.in_a_loop(), at, s)?;
@@ -251,7 +269,10 @@ fn for_loop(
     test: &Option<Expr>,
     step: &Option<Expr>,
 ) -> Result<Boxed<TypedStatement>, Fault>
-    ensures { Answers typed_statement_view (judging.judge_statement (around_view around) (tree.For at paren (option_map expr_view first.now) (option_map expr_view test.now) (option_map expr_view step.now) (statement_view s.now)) (state_of context.old)) result (state_of context.new) }
+    ensures { Answers typed_statement_view (judging.judge_statement (around_view around)
+        (tree.For at paren (option_map expr_view first.now) (option_map expr_view test.now)
+        (option_map expr_view step.now) (statement_view s.now)) (state_of context.old)) result
+        (state_of context.new) }
 {
     enter(context)?;
     let before = dropped(context, first)?;
@@ -279,7 +300,10 @@ fn for_declaration(
     test: &Option<Expr>,
     step: &Option<Expr>,
 ) -> Result<Boxed<TypedStatement>, Fault>
-    ensures { Answers typed_statement_view (judging.judge_statement (around_view around) (tree.ForDeclaration at paren (declaration_view d.now) (option_map expr_view test.now) (option_map expr_view step.now) (statement_view s.now)) (state_of context.old)) result (state_of context.new) }
+    ensures { Answers typed_statement_view (judging.judge_statement (around_view around)
+        (tree.ForDeclaration at paren (declaration_view d.now) (option_map expr_view test.now)
+        (option_map expr_view step.now) (statement_view s.now)) (state_of context.old)) result
+        (state_of context.new) }
 {
     enter(context)?;
     let before = declaration(context, false, d)?;
@@ -302,7 +326,8 @@ fn statement(
     around: Around,
     s: &Statement,
 ) -> Result<Boxed<TypedStatement>, Fault>
-    ensures { Answers typed_statement_view (judging.judge_statement (around_view around) (statement_view s.now) (state_of context.old)) result (state_of context.new) }
+    ensures { Answers typed_statement_view (judging.judge_statement (around_view around)
+        (statement_view s.now) (state_of context.old)) result (state_of context.new) }
 {
     match s {
         Statement::Block(brace, items) => block(context, around, *brace, items.as_slice()),
@@ -352,8 +377,14 @@ fn block_item(
     labels: &mut Labels,
     item: &BlockItem,
 ) -> Result<TypedBlockItem, Fault>
-    ensures answers { (all : tree.BlockItems) (start : UnitState) (list : TypedBlockItems) → judging.judge_block_items (around_view around) on all start ≡ Gives list (state_of context.old) → HoldsLabels labels.old list → Answers (λ one. typed_block_item_view one list) (judging.judge_block_items (around_view around) on (block_item_view item.now all) start) result (state_of context.new) }
-    ensures labels { (list : TypedBlockItems) → HoldsLabels labels.old list → IfOk result (λ one. HoldsLabels labels.new (typed_block_item_view one list)) }
+    ensures answers { (all : tree.BlockItems) (start : UnitState) (list : TypedBlockItems)
+        → judging.judge_block_items (around_view around) on all start
+        ≡ Gives list (state_of context.old) → HoldsLabels labels.old list
+        → Answers (λ one. typed_block_item_view one list)
+        (judging.judge_block_items (around_view around) on (block_item_view item.now all) start)
+        result (state_of context.new) }
+    ensures labels { (list : TypedBlockItems) → HoldsLabels labels.old list
+        → IfOk result (λ one. HoldsLabels labels.new (typed_block_item_view one list)) }
 {
     match item {
         BlockItem::Statement(s) => {
@@ -387,7 +418,8 @@ pub(crate) fn block_items(
     on: Option<TypeId>,
     items: &[BlockItem],
 ) -> Result<Items<TypedBlockItem>, Fault>
-    ensures { Answers typed_block_view (judging.judge_block_items (around_view around) on (block_view items.now) (state_of context.old)) result (state_of context.new) }
+    ensures { Answers typed_block_view (judging.judge_block_items (around_view around) on
+        (block_view items.now) (state_of context.old)) result (state_of context.new) }
 {
     let mut labels = Labels::new(context.scope.alloc());
     let mut list = Items::new(context.scope.alloc());

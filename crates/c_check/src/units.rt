@@ -35,7 +35,8 @@ const NOWHERE: Place = Place { line: 1, col: 1 };
 
 /// Adds the name of a function that is defined.
 fn add_written(alloc: Global, names: &mut Names, external: &External) -> Result<(), NoMemory>
-    ensures { (all : tree.TranslationUnit) → judging.functions_written all ≡ names.old → OnOk result (judging.functions_written (external_view external.now all) ≡ names.new) }
+    ensures { (all : tree.TranslationUnit) → judging.functions_written all ≡ names.old
+        → OnOk result (judging.functions_written (external_view external.now all) ≡ names.new) }
 {
     match external {
         External::Declaration(_) => Ok(()),
@@ -48,7 +49,8 @@ fn add_written(alloc: Global, names: &mut Names, external: &External) -> Result<
 
 /// The names of the functions that a unit defines, each once.
 fn functions_written(alloc: Global, externals: &[External]) -> Result<Names, NoMemory>
-    ensures { IfOk result (λ names. names ≡ judging.functions_written (added tree.NoExternal (map external_view externals.now))) }
+    ensures { IfOk result (λ names. names ≡ judging.functions_written
+        (added tree.NoExternal (map external_view externals.now))) }
 {
     let mut names = Names::new(alloc);
     for external in externals {
@@ -94,7 +96,9 @@ fn is_main(types: &Types, what: Option<&Declared>) -> bool
 
 /// Whether `int main(void)` is defined (C99 5.1.2.2.1).
 fn has_main(context: &Context) -> bool
-    ensures { result ≡ (judging.is_main context.now.types (entry_of context.now.linkage.linked (codes "main")) && has_some (place_among context.now.scope.scopes.defined (codes "main"))) }
+    ensures { result ≡ (judging.is_main context.now.types
+        (entry_of context.now.linkage.linked (codes "main")) && has_some
+        (place_among context.now.scope.scopes.defined (codes "main"))) }
 {
     is_main(&context.types, context.linkage.linked.of(b"main"))
         && context.scope.function(b"main").is_some()
@@ -103,7 +107,10 @@ fn has_main(context: &Context) -> bool
 /// A declaration or a function, after those before it.
 #[tactic(auto, unfolding(c_unit_typing::specs::DefinitionJudging::judge_unit))]
 fn judged_external(context: &mut Context, external: &External) -> Result<TypedExternal, Fault>
-    ensures { (all : tree.TranslationUnit) (start : UnitState) (list : TypedTranslationUnit) → judging.judge_unit all start ≡ Gives list (state_of context.old) → Answers (λ one. typed_external_view one list) (judging.judge_unit (external_view external.now all) start) result (state_of context.new) }
+    ensures { (all : tree.TranslationUnit) (start : UnitState) (list : TypedTranslationUnit)
+        → judging.judge_unit all start ≡ Gives list (state_of context.old)
+        → Answers (λ one. typed_external_view one list)
+        (judging.judge_unit (external_view external.now all) start) result (state_of context.new) }
 {
     match external {
         External::Declaration(d) => {
@@ -120,7 +127,9 @@ fn judged_external(context: &mut Context, external: &External) -> Result<TypedEx
 /// The declarations and functions of a unit, one after another.
 #[tactic(auto, unfolding(c_unit_typing::specs::DefinitionJudging::judge_unit))]
 fn externals(context: &mut Context, externals: &[External]) -> Result<Items<TypedExternal>, Fault>
-    ensures { Answers (λ list. added typed.NoExternal (map typed_external_view list)) (judging.judge_unit (added tree.NoExternal (map external_view externals.now)) (state_of context.old)) result (state_of context.new) }
+    ensures { Answers (λ list. added typed.NoExternal (map typed_external_view list))
+        (judging.judge_unit (added tree.NoExternal (map external_view externals.now))
+        (state_of context.old)) result (state_of context.new) }
 {
     let mut list = Items::new(context.scope.alloc());
     for external in externals {
@@ -133,7 +142,8 @@ fn externals(context: &mut Context, externals: &[External]) -> Result<Items<Type
 /// A unit. That it has a `main` is tried last.
 #[tactic(auto, unfolding(c_unit_typing::specs::DefinitionJudging::judge_whole))]
 pub(crate) fn whole(context: &mut Context, unit: &Unit) -> Result<TypedUnit, Fault>
-    ensures { Answers typed_unit_view (judging.judge_whole (unit_view unit.now) (state_of context.old)) result (state_of context.new) }
+    ensures { Answers typed_unit_view (judging.judge_whole (unit_view unit.now)
+        (state_of context.old)) result (state_of context.new) }
 {
     let list = externals(context, unit.externals.as_slice())?;
     if !has_main(context) {

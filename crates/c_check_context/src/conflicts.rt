@@ -38,7 +38,8 @@ fn conflicts(types: &Types, first: Option<&Declared>, what: Declared) -> bool
 }
 
 fn is_integer_of(shape: Option<&TypeShape>, count: u64, sign: bool) -> bool
-    ensures { result ≡ refusals.is_integer_of (shape_or_void (option_copied shape.entry)) count sign }
+    ensures { result ≡ refusals.is_integer_of
+        (shape_or_void (option_copied shape.entry)) count sign }
 {
     match shape {
         Some(TypeShape::Integer { bytes, signed }) => *bytes == count && *signed == sign,
@@ -86,7 +87,8 @@ fn are_runtime_types(types: &Types, wanted: &[RuntimeType], given: &[TypeId]) ->
 }
 
 fn is_prototype(types: &Types, function: Runtime, shape: Option<&TypeShape>) -> bool
-    ensures { result ≡ refusals.is_prototype_shape types.now function (shape_or_void (option_copied shape.entry)) }
+    ensures { result ≡ refusals.is_prototype_shape types.now function
+        (shape_or_void (option_copied shape.entry)) }
 {
     match shape {
         Some(TypeShape::Function(parameters, result)) => {
@@ -168,7 +170,8 @@ pub fn is_linked_home(first: Option<&Declared>, home: NodeId) -> bool
 
 /// Whether an object of the innermost scope is not the one with linkage.
 fn is_unlinked(here: Option<&Declared>, linked: Option<&Declared>) -> bool
-    ensures { result ≡ refusals.is_unlinked (option_copied here.entry) (option_copied linked.entry) }
+    ensures { result ≡ refusals.is_unlinked (option_copied here.entry)
+        (option_copied linked.entry) }
 {
     match here {
         Some(Declared::Object(_, home)) => !is_linked_home(linked, *home),
@@ -179,7 +182,10 @@ fn is_unlinked(here: Option<&Declared>, linked: Option<&Declared>) -> bool
 impl Context {
     /// Whether the innermost scope has the name as something else, or as an object without linkage.
     fn disagrees_here(&self, name: &Identifier, what: Declared) -> bool
-        ensures { result ≡ (refusals.conflicts self.now.types (here self.now.scope.scopes.levels name.now.bytes) what || refusals.is_unlinked (here self.now.scope.scopes.levels name.now.bytes) (entry_of self.now.linkage.linked name.now.bytes)) }
+        ensures { result ≡ (refusals.conflicts self.now.types
+            (here self.now.scope.scopes.levels name.now.bytes) what || refusals.is_unlinked
+            (here self.now.scope.scopes.levels name.now.bytes)
+            (entry_of self.now.linkage.linked name.now.bytes)) }
     {
         let bytes = name.bytes.as_slice();
         let here = self.scope.here(bytes);
@@ -188,7 +194,9 @@ impl Context {
 
     /// Whether a name is linked as something else, or is that of a runtime function with another type.
     fn disagrees_with_linked(&self, name: &Identifier, what: Declared) -> bool
-        ensures { result ≡ (refusals.conflicts self.now.types (entry_of self.now.linkage.linked name.now.bytes) what || refusals.conflicts_with_runtime self.now.types (runtime_of name.now.bytes) what) }
+        ensures { result ≡ (refusals.conflicts self.now.types
+            (entry_of self.now.linkage.linked name.now.bytes) what ||
+            refusals.conflicts_with_runtime self.now.types (runtime_of name.now.bytes) what) }
     {
         let bytes = name.bytes.as_slice();
         conflicts(&self.types, self.linkage.linked.of(bytes), what)
@@ -204,7 +212,8 @@ impl Context {
 
     /// Whether a name with linkage does not agree with what is known of it, or is defined twice.
     fn conflicts_as_linked(&self, defines: bool, name: &Identifier, what: Declared) -> bool
-        ensures { result ≡ refusals.is_redeclared self.now.types (known_of (state_of self.now)) true defines name.now.bytes what }
+        ensures { result ≡ refusals.is_redeclared self.now.types
+            (known_of (state_of self.now)) true defines name.now.bytes what }
     {
         if self.disagrees_here(name, what) {
             return true;
@@ -223,7 +232,8 @@ impl Context {
         name: &Identifier,
         what: Declared,
     ) -> bool
-        ensures { result ≡ refusals.is_redeclared self.now.types (known_of (state_of self.now)) linked defines name.now.bytes what }
+        ensures { result ≡ refusals.is_redeclared self.now.types
+            (known_of (state_of self.now)) linked defines name.now.bytes what }
     {
         if linked {
             self.conflicts_as_linked(defines, name, what)
@@ -248,7 +258,9 @@ impl Context {
         name: &Identifier,
         what: Declared,
     ) -> bool
-        ensures { result ≡ (refusals.is_redeclared self.now.types (known_of (state_of self.now)) linked defines name.now.bytes what || refusals.is_taken_by_runtime self.now.types file name.now.bytes what) }
+        ensures { result ≡ (refusals.is_redeclared self.now.types
+            (known_of (state_of self.now)) linked defines name.now.bytes what ||
+            refusals.is_taken_by_runtime self.now.types file name.now.bytes what) }
     {
         self.is_redeclared(linked, defines, name, what)
             || self.is_taken_by_runtime(file, name, what)
@@ -263,7 +275,9 @@ impl Context {
         name: &Identifier,
         t: TypeId,
     ) -> Option<Fault>
-        ensures { result ≡ first_broken (refusals.declared_tests self.now.types (known_of (state_of self.now)) file (storage_view storage) initialised name.now.bytes t name.now.place) }
+        ensures { result ≡ first_broken (refusals.declared_tests self.now.types
+            (known_of (state_of self.now)) file
+            (storage_view storage) initialised name.now.bytes t name.now.place) }
     {
         let what = declared_as(&self.types, storage, t);
         let object = is_object(what);

@@ -41,7 +41,8 @@ pub struct Context {
 impl Context {
     /// The value of an expression; a struct is not read.
     pub fn expr(&mut self, e: &Expr) -> Result<Boxed<TypedExpr>, Fault>
-        ensures { Answers typed_expr_view (lifted (checked (expr_view e.now)) (state_of self.old)) result (state_of self.new) }
+        ensures { Answers typed_expr_view (lifted (checked (expr_view e.now)) (state_of self.old))
+            result (state_of self.new) }
     {
         let v = check_expr(&mut self.scope, &mut self.types, e)?;
         Ok(Boxed::new(self.scope.alloc(), v)?)
@@ -55,7 +56,8 @@ impl Context {
         init: bool,
         e: &Expr,
     ) -> Result<Boxed<TypedExpr>, Fault>
-        ensures { Answers typed_expr_view (lifted (checked_value to at init (expr_view e.now)) (state_of self.old)) result (state_of self.new) }
+        ensures { Answers typed_expr_view (lifted (checked_value to at init (expr_view e.now))
+            (state_of self.old)) result (state_of self.new) }
     {
         let v = check_value(&mut self.scope, &mut self.types, to, at, init, e)?;
         Ok(Boxed::new(self.scope.alloc(), v)?)
@@ -63,7 +65,8 @@ impl Context {
 
     /// An integer constant expression and its value.
     pub fn constant(&mut self, e: &Expr) -> Result<(Boxed<TypedExpr>, i128), Fault>
-        ensures { Answers constant_view (lifted (checked_constant (expr_view e.now)) (state_of self.old)) result (state_of self.new) }
+        ensures { Answers constant_view (lifted (checked_constant (expr_view e.now))
+            (state_of self.old)) result (state_of self.new) }
     {
         let (v, value) = check_constant(&mut self.scope, &mut self.types, e)?;
         Ok((Boxed::new(self.scope.alloc(), v)?, value))
@@ -75,7 +78,8 @@ impl Context {
         specifiers: &Specifiers,
         alone: bool,
     ) -> Result<TypedSpecifiers, Fault>
-        ensures { Answers typed_specifiers_view (lifted (judge_specifiers_of alone (specifiers_view specifiers.now)) (state_of self.old)) result (state_of self.new) }
+        ensures { Answers typed_specifiers_view (lifted (judge_specifiers_of alone
+            (specifiers_view specifiers.now)) (state_of self.old)) result (state_of self.new) }
     {
         check_specifiers(&mut self.scope, &mut self.types, specifiers, alone)
     }
@@ -88,7 +92,9 @@ impl Context {
         size: Option<u64>,
         d: &Declarator,
     ) -> Result<TypedDeclarator, Fault>
-        ensures { Answers typed_declarator_view (lifted (judge_declarator naming (typed_specifiers_view base.now) size (declarator_view d.now)) (state_of self.old)) result (state_of self.new) }
+        ensures { Answers typed_declarator_view (lifted (judge_declarator naming
+            (typed_specifiers_view base.now) size (declarator_view d.now)) (state_of self.old))
+            result (state_of self.new) }
     {
         check_declarator(&mut self.scope, &mut self.types, base, d, size, naming)
     }
@@ -100,22 +106,28 @@ impl Context {
         base: &TypedSpecifiers,
         d: &Declarator,
     ) -> Result<(TypedDeclarator, Level), Fault>
-        ensures level { IfOk result (λ made. level_of naming (specified_type (typed_specifiers_view base.now)) (declarator_view d.now) (known self.old.types self.old.scope) ≡ made.1) }
-        ensures judged { Answers (λ made. typed_declarator_view made.0) (lifted (judge_declarator naming (typed_specifiers_view base.now) None (declarator_view d.now)) (state_of self.old)) result (state_of self.new) }
+        ensures level { IfOk result (λ made. level_of naming (specified_type
+            (typed_specifiers_view base.now)) (declarator_view d.now)
+            (known self.old.types self.old.scope) ≡ made.1) }
+        ensures judged { Answers (λ made. typed_declarator_view made.0)
+            (lifted (judge_declarator naming (typed_specifiers_view base.now) None
+            (declarator_view d.now)) (state_of self.old)) result (state_of self.new) }
     {
         check_definition(&mut self.scope, &mut self.types, base, d, naming)
     }
 
     /// The pointers that the copy of a struct moves are counted.
     pub fn count_cells(&mut self, at: Place, t: TypeId) -> Result<TypeId, Fault>
-        ensures { Answers (λ u. u) (lifted (count_cells at t) (state_of self.old)) result (state_of self.new) }
+        ensures { Answers (λ u. u) (lifted (count_cells at t) (state_of self.old)) result
+            (state_of self.new) }
     {
         count_cells(&mut self.scope, &self.types, at, t)
     }
 
     /// The bytes of an object that lives as long as the program are counted.
     pub(crate) fn count_global(&mut self, at: Place, bytes: u64) -> Result<u64, Fault>
-        ensures { Answers (λ n. n) (lifted (count_global at bytes) (state_of self.old)) result (state_of self.new) }
+        ensures { Answers (λ n. n) (lifted (count_global at bytes) (state_of self.old)) result
+            (state_of self.new) }
     {
         count_global(&mut self.scope, &self.types, at, bytes)
     }

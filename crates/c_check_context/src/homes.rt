@@ -31,7 +31,8 @@ pub enum Storage {
 }
 
 fn storage_of_word(word: Keyword) -> Option<Storage>
-    ensures { (before : SeenStorage) → units.storage_of_word word before ≡ stored_or (option_map storage_view result) before }
+    ensures { (before : SeenStorage) → units.storage_of_word word before
+        ≡ stored_or (option_map storage_view result) before }
 {
     match word {
         Keyword::Typedef => Some(Storage::AsTypedef),
@@ -45,7 +46,9 @@ fn storage_of_word(word: Keyword) -> Option<Storage>
 /// What a specifier asks for, if it is a storage word.
 #[tactic(auto, using(c_tree::proofs::TypedViewLaws::typed_views))]
 fn own_storage(specifier: &TypedSpecifier) -> Option<Storage>
-    ensures { (all : TypedSpecifierList) → units.storage_of_list (typed.AndSpecifier all (typed_specifier_view specifier.now)) ≡ stored_or (option_map storage_view result) (units.storage_of_list all) }
+    ensures { (all : TypedSpecifierList) → units.storage_of_list
+        (typed.AndSpecifier all (typed_specifier_view specifier.now))
+        ≡ stored_or (option_map storage_view result) (units.storage_of_list all) }
 {
     match specifier {
         TypedSpecifier::Keyword(word) => storage_of_word(word.keyword),
@@ -56,7 +59,8 @@ fn own_storage(specifier: &TypedSpecifier) -> Option<Storage>
 /// The last storage word counts.
 #[tactic(auto, using(c_tree::proofs::TypedPushLaws::typed_pushes))]
 fn storage_of_list(list: &[TypedSpecifier]) -> Storage
-    ensures { storage_view result ≡ units.storage_of_list (typed_specifiers_of (map typed_specifier_view list.now)) }
+    ensures { storage_view result ≡ units.storage_of_list
+        (typed_specifiers_of (map typed_specifier_view list.now)) }
 {
     let mut rest = list;
     'backwards: while let Some((last, before)) = rest.split_last() {

@@ -19,7 +19,8 @@ use std::alloc::Global;
 
 /// Declares a name in the innermost scope, unless that has it.
 fn declare_unless_here(scope: &mut Scope, name: &[u8], what: Declared) -> Result<(), NoMemory>
-    ensures { OnOk result (scope.new ≡ with_scopes scope.old (unless_here (here scope.old.scopes.levels name.now) name.now what scope.old.scopes)) }
+    ensures { OnOk result (scope.new ≡ with_scopes scope.old
+        (unless_here (here scope.old.scopes.levels name.now) name.now what scope.old.scopes)) }
 {
     match scope.here(name) {
         Some(_) => Ok(()),
@@ -34,7 +35,10 @@ fn link_unless_linked(
     name: &[u8],
     what: Declared,
 ) -> Result<(), NoMemory>
-    ensures { OnOk result (linkage.new ≡ record linkage.old { linked = unless_linked (entry_of linkage.old.linked name.now) name.now what linkage.old.linked }) }
+    ensures { OnOk result (linkage.new ≡ record linkage.old {
+      linked = unless_linked (entry_of linkage.old.linked name.now) name.now what
+          linkage.old.linked;
+    }) }
 {
     match linkage.linked.of(name) {
         Some(_) => Ok(()),
@@ -45,7 +49,8 @@ fn link_unless_linked(
 impl Context {
     /// The first declaration with linkage of what a declarator names.
     pub fn first_linked(&self, name: Option<&Identifier>) -> Option<&Declared>
-        ensures { option_copied result ≡ judging.linked_first self.now.linkage.linked (option_copied name.entry) }
+        ensures { option_copied result ≡ judging.linked_first self.now.linkage.linked
+            (option_copied name.entry) }
     {
         match name {
             Some(name) => self.linkage.linked.of(name.bytes.as_slice()),
@@ -56,7 +61,8 @@ impl Context {
     /// A name that the innermost scope does not have.
     #[tactic(auto, unfolding(c_unit_typing::specs::DeclarationJudging::new_name))]
     pub fn new_name(&mut self, name: &Identifier, what: Declared) -> Result<(), Fault>
-        ensures { Answers (λ u. what) (judging.new_name name.now what (state_of self.old)) result (state_of self.new) }
+        ensures { Answers (λ u. what) (judging.new_name name.now what (state_of self.old)) result
+            (state_of self.new) }
     {
         if self.scope.here(name.bytes.as_slice()).is_some() {
             return Err(no_room(name.place));
@@ -68,7 +74,8 @@ impl Context {
     /// A name with linkage: its first declaration stays, in its scope and everywhere.
     #[tactic(auto, unfolding(c_unit_typing::specs::DeclarationJudging::linked_name))]
     pub fn linked_name(&mut self, name: &Identifier, what: Declared) -> Result<(), Fault>
-        ensures { Answers (λ u. what) (judging.linked_name name.now what (state_of self.old)) result (state_of self.new) }
+        ensures { Answers (λ u. what) (judging.linked_name name.now what (state_of self.old)) result
+            (state_of self.new) }
     {
         let alloc = self.scope.alloc();
         declare_unless_here(&mut self.scope, name.bytes.as_slice(), what)?;
@@ -84,7 +91,8 @@ impl Context {
         name: &Identifier,
         what: Declared,
     ) -> Result<(), Fault>
-        ensures { Answers (λ u. what) (judging.object_name linked name.now what (state_of self.old)) result (state_of self.new) }
+        ensures { Answers (λ u. what) (judging.object_name linked name.now what (state_of self.old))
+            result (state_of self.new) }
     {
         if linked {
             self.linked_name(name, what)
@@ -96,7 +104,8 @@ impl Context {
     /// The home of an object that lives as long as the program.
     #[tactic(auto, unfolding(c_unit_typing::specs::DeclarationJudging::lasting))]
     pub(crate) fn lasting(&mut self, home: NodeId) -> Result<(), Fault>
-        ensures { Answers (λ u. home) (judging.lasting home (state_of self.old)) result (state_of self.new) }
+        ensures { Answers (λ u. home) (judging.lasting home (state_of self.old)) result
+            (state_of self.new) }
     {
         self.linkage.statics.add(home)?;
         Ok(())

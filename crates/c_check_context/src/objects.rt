@@ -32,7 +32,8 @@ impl Context {
     /// A new object that lives as long as the program: its bytes are counted.
     #[tactic(auto, unfolding(c_unit_typing::specs::DeclarationJudging::new_static, c_unit_typing::specs::DeclarationJudging::count_object))]
     fn new_static(&mut self, name: &Identifier, home: NodeId, t: TypeId) -> Result<(), Fault>
-        ensures { Answers (λ u. home) (judging.new_static name.now home t (state_of self.old)) result (state_of self.new) }
+        ensures { Answers (λ u. home) (judging.new_static name.now home t (state_of self.old))
+            result (state_of self.new) }
     {
         let Some(bytes) = complete_size(&self.types, t) else {
             return Err(no_room(name.place));
@@ -50,7 +51,8 @@ impl Context {
         t: TypeId,
         home: Home,
     ) -> Result<(), Fault>
-        ensures { Answers (λ u. object_view t home) (judging.declare_object linked name.now t home (state_of self.old)) result (state_of self.new) }
+        ensures { Answers (λ u. object_view t home) (judging.declare_object linked name.now t home
+            (state_of self.old)) result (state_of self.new) }
     {
         match home {
             Home::Static(n) => {
@@ -74,7 +76,9 @@ impl Context {
         t: TypeId,
         home: Home,
     ) -> Result<(), Fault>
-        ensures { Answers (λ u. declared_view function t home) (judging.declare_by function linked name.now t home (state_of self.old)) result (state_of self.new) }
+        ensures { Answers (λ u. declared_view function t home)
+            (judging.declare_by function linked name.now t home (state_of self.old)) result
+            (state_of self.new) }
     {
         if function {
             self.linked_name(name, Declared::Function(t))
@@ -93,7 +97,9 @@ impl Context {
         t: TypeId,
         home: Home,
     ) -> Result<(), Fault>
-        ensures { Answers (λ u. name_view (is_function_shape (shape_at self.old.types t)) (storage_view storage) t home) (judging.declare file (storage_view storage) name.now t home (state_of self.old)) result (state_of self.new) }
+        ensures { Answers (λ u. name_view (is_function_shape (shape_at self.old.types t))
+            (storage_view storage) t home) (judging.declare file
+            (storage_view storage) name.now t home (state_of self.old)) result (state_of self.new) }
     {
         match storage {
             Storage::AsTypedef => self.new_name(name, Declared::Typedef(t)),

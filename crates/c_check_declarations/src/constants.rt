@@ -40,7 +40,8 @@ fn is_division(operator: Binary) -> bool
 #[cycle(constant_places)]
 #[tactic(auto, using(c_tree::proofs::TypedViewLaws::typed_views))]
 fn is_constant_place(types: &Types, statics: &Homes, p: &TypedPlace) -> bool
-    ensures { result ≡ initialisers.is_constant_place types.now statics.now (typed_place_view p.now) }
+    ensures { result ≡ initialisers.is_constant_place types.now statics.now
+        (typed_place_view p.now) }
 {
     match p {
         TypedPlace::Variable(_, home, _) => statics.has(*home),
@@ -61,7 +62,8 @@ fn is_constant_place(types: &Types, statics: &Homes, p: &TypedPlace) -> bool
 #[cycle(constant_places)]
 #[tactic(auto, using(c_tree::proofs::TypedViewLaws::typed_views))]
 fn is_constant_array(types: &Types, statics: &Homes, e: &TypedExpr) -> bool
-    ensures { result ≡ initialisers.is_constant_array types.now statics.now (typed_expr_view e.now) }
+    ensures { result ≡ initialisers.is_constant_array types.now statics.now
+        (typed_expr_view e.now) }
 {
     match e {
         TypedExpr::Paren(_, inner) => is_constant_array(types, statics, inner.get()),

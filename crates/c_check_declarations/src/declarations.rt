@@ -54,7 +54,9 @@ fn named(
     name: Option<&Identifier>,
     one: TypedDeclarator,
 ) -> Result<TypedDeclarator, Fault>
-    ensures { Answers typed_declarator_view (judging.named file (storage_view storage) initialised (option_copied name.entry) (typed_declarator_view one) (state_of context.old)) result (state_of context.new) }
+    ensures { Answers typed_declarator_view (judging.named file (storage_view storage) initialised
+        (option_copied name.entry) (typed_declarator_view one) (state_of context.old)) result
+        (state_of context.new) }
 {
     let Some(name) = name else {
         return Err(no_room(NOWHERE));
@@ -76,7 +78,9 @@ fn declared(
     size: Option<u64>,
     d: &Declarator,
 ) -> Result<TypedDeclarator, Fault>
-    ensures { Answers typed_declarator_view (judging.judge_named file (typed_specifiers_view base.now) initialised size (declarator_view d.now) (state_of context.old)) result (state_of context.new) }
+    ensures { Answers typed_declarator_view (judging.judge_named file
+        (typed_specifiers_view base.now) initialised size (declarator_view d.now)
+        (state_of context.old)) result (state_of context.new) }
 {
     let storage = storage_of(base);
     let name = declarator_name(d);
@@ -88,7 +92,9 @@ fn declared(
 /// An initialiser defines what has linkage.
 #[tactic(auto, unfolding(c_unit_typing::specs::DeclarationJudging::defining))]
 fn defining(context: &mut Context, name: Option<&Identifier>, home: Home) -> Result<(), Fault>
-    ensures { (one : SeenDeclarator) → home_of one ≡ home → Answers (λ u. one) (judging.defining (option_copied name.entry) one (state_of context.old)) result (state_of context.new) }
+    ensures { (one : SeenDeclarator) → home_of one ≡ home
+        → Answers (λ u. one) (judging.defining (option_copied name.entry) one
+        (state_of context.old)) result (state_of context.new) }
 {
     let Some(name) = name else {
         return Ok(());
@@ -111,7 +117,12 @@ fn initialised_declarator(
     at: Place,
     i: &Initialiser,
 ) -> Result<TypedInitDeclarator, Fault>
-    ensures { (all : tree.InitDeclarators) (start : UnitState) (list : TypedInitDeclarators) → judging.judge_init_declarators file (typed_specifiers_view base.now) all start ≡ Gives list (state_of context.old) → Answers (λ one. typed_init_declarator_view one list) (judging.judge_init_declarators file (typed_specifiers_view base.now) (tree.AndInitialised all (declarator_view d.now) at (initialiser_view i.now)) start) result (state_of context.new) }
+    ensures { (all : tree.InitDeclarators) (start : UnitState) (list : TypedInitDeclarators)
+        → judging.judge_init_declarators file (typed_specifiers_view base.now) all start
+        ≡ Gives list (state_of context.old) → Answers (λ one. typed_init_declarator_view one list)
+        (judging.judge_init_declarators file (typed_specifiers_view base.now)
+        (tree.AndInitialised all (declarator_view d.now) at (initialiser_view i.now)) start) result
+        (state_of context.new) }
 {
     let chars = makes_chars(&context.types, base.ty, d);
     let size = size_written(context.scope.alloc(), chars, i)?;
@@ -130,7 +141,11 @@ fn init_declarator(
     base: &TypedSpecifiers,
     d: &InitDeclarator,
 ) -> Result<TypedInitDeclarator, Fault>
-    ensures { (all : tree.InitDeclarators) (start : UnitState) (list : TypedInitDeclarators) → judging.judge_init_declarators file (typed_specifiers_view base.now) all start ≡ Gives list (state_of context.old) → Answers (λ one. typed_init_declarator_view one list) (judging.judge_init_declarators file (typed_specifiers_view base.now) (init_declarator_view d.now all) start) result (state_of context.new) }
+    ensures { (all : tree.InitDeclarators) (start : UnitState) (list : TypedInitDeclarators)
+        → judging.judge_init_declarators file (typed_specifiers_view base.now) all start
+        ≡ Gives list (state_of context.old) → Answers (λ one. typed_init_declarator_view one list)
+        (judging.judge_init_declarators file (typed_specifiers_view base.now)
+        (init_declarator_view d.now all) start) result (state_of context.new) }
 {
     match d {
         InitDeclarator::Plain(d) => {
@@ -151,7 +166,10 @@ fn init_declarators(
     base: &TypedSpecifiers,
     declarators: &[InitDeclarator],
 ) -> Result<Items<TypedInitDeclarator>, Fault>
-    ensures { Answers (λ list. added typed.NoInitDeclarator (map typed_init_declarator_view list)) (judging.judge_init_declarators file (typed_specifiers_view base.now) (added tree.NoInitDeclarator (map init_declarator_view declarators.now)) (state_of context.old)) result (state_of context.new) }
+    ensures { Answers (λ list. added typed.NoInitDeclarator (map typed_init_declarator_view list))
+        (judging.judge_init_declarators file (typed_specifiers_view base.now)
+        (added tree.NoInitDeclarator (map init_declarator_view declarators.now))
+        (state_of context.old)) result (state_of context.new) }
 {
     let mut list = Items::new(context.scope.alloc());
     for d in declarators {
@@ -168,7 +186,8 @@ pub fn declaration(
     file: bool,
     d: &Declaration,
 ) -> Result<TypedDeclaration, Fault>
-    ensures { Answers typed_declaration_view (judging.judge_declaration file (declaration_view d.now) (state_of context.old)) result (state_of context.new) }
+    ensures { Answers typed_declaration_view (judging.judge_declaration file
+        (declaration_view d.now) (state_of context.old)) result (state_of context.new) }
 {
     let alone = d.declarators.as_slice().split_last().is_none();
     let specifiers = context.specifiers(&d.specifiers, alone)?;

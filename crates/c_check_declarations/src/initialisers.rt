@@ -31,7 +31,8 @@ const NOWHERE: Place = Place { line: 1, col: 1 };
 /// Whether what is listed for a type is a literal for the whole of it.
 #[tactic(auto, using(crate::proofs::LiteralLaws::is_literal, crate::proofs::LiteralLaws::is_no_literal))]
 fn is_text(types: &Types, items: &[Initialiser], t: TypeId) -> bool
-    ensures { result ≡ (judging.is_only_literal (items_of (map initialiser_view items.now)) && is_char_array types.now t) }
+    ensures { result ≡ (judging.is_only_literal (items_of (map initialiser_view items.now)) &&
+        is_char_array types.now t) }
 {
     match only_literal(items) {
         Some(_) => char_count(types, t).is_some(),
@@ -46,7 +47,8 @@ fn copied(
     at: Place,
     p: Boxed<TypedPlace>,
 ) -> Result<Boxed<TypedInitialiser>, Fault>
-    ensures { Answers typed_initialiser_view (judging.initialised at (typed.Unread (typed_place_view p)) (state_of context.old)) result (state_of context.new) }
+    ensures { Answers typed_initialiser_view (judging.initialised at
+        (typed.Unread (typed_place_view p)) (state_of context.old)) result (state_of context.new) }
 {
     context.count_cells(at, p.get().ty())?;
     let copied = TypedInitialiser::Copied(p.into_inner(), at);
@@ -60,7 +62,8 @@ fn initialised(
     at: Place,
     e: Boxed<TypedExpr>,
 ) -> Result<Boxed<TypedInitialiser>, Fault>
-    ensures { Answers typed_initialiser_view (judging.initialised at (typed_expr_view e) (state_of context.old)) result (state_of context.new) }
+    ensures { Answers typed_initialiser_view (judging.initialised at (typed_expr_view e)
+        (state_of context.old)) result (state_of context.new) }
 {
     match e.into_inner() {
         TypedExpr::Unread(p) => copied(context, at, p),
@@ -77,7 +80,8 @@ fn value_for(
     t: TypeId,
     e: &Expr,
 ) -> Result<Boxed<TypedInitialiser>, Fault>
-    ensures { Answers typed_initialiser_view (judging.value_for constant at t (expr_view e.now) (state_of context.old)) result (state_of context.new) }
+    ensures { Answers typed_initialiser_view (judging.value_for constant at t (expr_view e.now)
+        (state_of context.old)) result (state_of context.new) }
 {
     let v = context.value(t, at, true, e)?;
     if constant && !is_constant(&context.types, &context.linkage.statics, v.get()) {
@@ -96,7 +100,8 @@ fn value_or_text(
     e: &Expr,
     count: Option<u64>,
 ) -> Result<Boxed<TypedInitialiser>, Fault>
-    ensures { Answers typed_initialiser_view (judging.value_or_text constant at t (expr_view e.now) count (state_of context.old)) result (state_of context.new) }
+    ensures { Answers typed_initialiser_view (judging.value_or_text constant at t
+        (expr_view e.now) count (state_of context.old)) result (state_of context.new) }
 {
     match (e, count) {
         (Expr::String(pieces), Some(count)) => text(context, at, count, pieces.as_slice()),
@@ -107,7 +112,8 @@ fn value_or_text(
 /// What there is no room for.
 #[tactic(auto, unfolding(c_unit_typing::specs::InitialiserJudging::excess))]
 fn excess(context: &mut Context, at: Place, e: &Expr) -> Result<Boxed<TypedInitialiser>, Fault>
-    ensures { Answers typed_initialiser_view (judging.excess at (expr_view e.now) (state_of context.old)) result (state_of context.new) }
+    ensures { Answers typed_initialiser_view (judging.excess at (expr_view e.now)
+        (state_of context.old)) result (state_of context.new) }
 {
     context.expr(e)?;
     Err(refusal(at, Rule::Mismatch))
@@ -117,7 +123,8 @@ fn excess(context: &mut Context, at: Place, e: &Expr) -> Result<Boxed<TypedIniti
 #[cycle(excess)]
 #[tactic(auto, using(c_tree::proofs::StatementViewLaws::statement_views), unfolding(c_unit_typing::specs::InitialiserJudging::judge_excess))]
 fn judged_excess(context: &mut Context, i: &Initialiser) -> Result<(), Fault>
-    ensures { Answers (λ u. true) (judging.judge_excess (initialiser_view i.now) (state_of context.old)) result (state_of context.new) }
+    ensures { Answers (λ u. true) (judging.judge_excess (initialiser_view i.now)
+        (state_of context.old)) result (state_of context.new) }
 {
     match i {
         Initialiser::Value(e) => {
@@ -131,7 +138,9 @@ fn judged_excess(context: &mut Context, i: &Initialiser) -> Result<(), Fault>
 #[cycle(excess)]
 #[tactic(auto, unfolding(c_unit_typing::specs::InitialiserJudging::judge_all_excess))]
 fn judged_all_excess(context: &mut Context, items: &[Initialiser]) -> Result<(), Fault>
-    ensures { Answers (λ u. true) (judging.judge_all_excess (items_of (map initialiser_view items.now)) (state_of context.old)) result (state_of context.new) }
+    ensures { Answers (λ u. true) (judging.judge_all_excess
+        (items_of (map initialiser_view items.now)) (state_of context.old)) result
+        (state_of context.new) }
 {
     for item in items {
         judged_excess(context, item)?;
@@ -146,7 +155,9 @@ fn excess_braces(
     brace: Place,
     items: &[Initialiser],
 ) -> Result<Boxed<TypedInitialiser>, Fault>
-    ensures { Answers typed_initialiser_view (judging.excess_braces brace (items_of (map initialiser_view items.now)) (state_of context.old)) result (state_of context.new) }
+    ensures { Answers typed_initialiser_view (judging.excess_braces brace
+        (items_of (map initialiser_view items.now)) (state_of context.old)) result
+        (state_of context.new) }
 {
     judged_all_excess(context, items)?;
     Err(refusal(brace, Rule::Mismatch))
@@ -161,7 +172,8 @@ fn plain(
     at: Place,
     to: Option<TypeId>,
 ) -> Result<Boxed<TypedInitialiser>, Fault>
-    ensures { Answers typed_initialiser_view (judging.judge_plain constant (expr_view e.now) at to (state_of context.old)) result (state_of context.new) }
+    ensures { Answers typed_initialiser_view (judging.judge_plain constant (expr_view e.now) at to
+        (state_of context.old)) result (state_of context.new) }
 {
     match to {
         Some(t) => {
@@ -183,7 +195,9 @@ pub(crate) fn initialiser(
     to: Option<TypeId>,
     single: bool,
 ) -> Result<Boxed<TypedInitialiser>, Fault>
-    ensures { Answers typed_initialiser_view (judging.judge_initialiser constant (initialiser_view i.now) at to single (state_of context.old)) result (state_of context.new) }
+    ensures { Answers typed_initialiser_view (judging.judge_initialiser constant
+        (initialiser_view i.now) at to single (state_of context.old)) result
+        (state_of context.new) }
 {
     match i {
         Initialiser::Value(e) => plain(context, constant, e, at, to),
@@ -212,7 +226,9 @@ fn judged_items(
     text: bool,
     t: TypeId,
 ) -> Result<Items<TypedItem>, Fault>
-    ensures { Answers (λ list. added typed.NoItem (map typed_item_view list)) (judging.judge_items constant (items_of (map initialiser_view items.now)) text t (state_of context.old)) result (state_of context.new) }
+    ensures { Answers (λ list. added typed.NoItem (map typed_item_view list))
+        (judging.judge_items constant (items_of (map initialiser_view items.now)) text t
+        (state_of context.old)) result (state_of context.new) }
 {
     let mut list = Items::new(context.scope.alloc());
     for item in items {
@@ -233,7 +249,11 @@ fn judged_item(
     t: TypeId,
     number: u64,
 ) -> Result<TypedItem, Fault>
-    ensures { (all : tree.Items) (start : UnitState) (list : typed.TypedItems) → judging.judge_items constant all text t start ≡ Gives list (state_of context.old) → items_count list ≡ number → Answers (λ one. typed_item_view one list) (judging.judge_items constant (tree.AndItem all (initialiser_view item.now)) text t start) result (state_of context.new) }
+    ensures { (all : tree.Items) (start : UnitState) (list : typed.TypedItems)
+        → judging.judge_items constant all text t start ≡ Gives list (state_of context.old)
+        → items_count list ≡ number → Answers (λ one. typed_item_view one list)
+        (judging.judge_items constant (tree.AndItem all (initialiser_view item.now)) text t start)
+        result (state_of context.new) }
 {
     let slot = item_slot(&context.types, text, t, number);
     let single = is_scalar(shape_at(&context.types, t));

@@ -104,7 +104,8 @@ fn text_size(alloc: Global, pieces: &[StringPiece]) -> Result<u64, NoMemory>
 /// The literal that stands in braces by itself.
 #[tactic(auto, using(c_tree::proofs::StatementViewLaws::statement_views, c_tree::proofs::ViewLaws::expr_views, c_tree::proofs::PushLaws::pushes))]
 pub(crate) fn only_literal(items: &[Initialiser]) -> Option<&[StringPiece]>
-    ensures { option_map (λ pieces. pieces.now) result ≡ only_literal (items_of (map initialiser_view items.now)) }
+    ensures { option_map (λ pieces. pieces.now) result
+        ≡ only_literal (items_of (map initialiser_view items.now)) }
 {
     match items.split_last() {
         Some((Initialiser::Value(Expr::String(pieces)), before)) => match before.split_last() {
@@ -118,7 +119,8 @@ pub(crate) fn only_literal(items: &[Initialiser]) -> Option<&[StringPiece]>
 /// The size that is listed in braces: how many items there are, or the size of a literal for an array of char.
 #[tactic(auto, using(crate::proofs::LiteralLaws::literal_size, crate::proofs::LiteralLaws::other_size, crate::proofs::LiteralLaws::count_listed))]
 fn listed_written(alloc: Global, of_char: bool, items: &[Initialiser]) -> Result<u64, NoMemory>
-    ensures { IfOk result (λ n. n ≡ refusals.listed_written of_char (items_of (map initialiser_view items.now))) }
+    ensures { IfOk result (λ n. n ≡ refusals.listed_written of_char
+        (items_of (map initialiser_view items.now))) }
 {
     match only_literal(items) {
         Some(pieces) if of_char => text_size(alloc, pieces),
@@ -129,7 +131,8 @@ fn listed_written(alloc: Global, of_char: bool, items: &[Initialiser]) -> Result
 /// The size that an expression without braces gives: a literal for an array of char has one.
 #[tactic(auto, using(c_tree::proofs::ViewLaws::expr_views))]
 fn value_written(alloc: Global, of_char: bool, e: &Expr) -> Result<Option<u64>, NoMemory>
-    ensures { IfOk result (λ size. size ≡ refusals.size_written of_char (tree.Value (expr_view e.now))) }
+    ensures { IfOk result (λ size. size ≡ refusals.size_written of_char
+        (tree.Value (expr_view e.now))) }
 {
     match e {
         Expr::String(pieces) if of_char => Ok(Some(text_size(alloc, pieces.as_slice())?)),

@@ -23,7 +23,8 @@ pub(crate) struct Slot {
 
 /// The count of an array of char, signed or not, by its element.
 fn char_count_of_element(element: Option<&TypeShape>, count: u64) -> Option<u64>
-    ensures { result ≡ initialisers.char_count_of_element (shape_or_void (option_copied element.entry)) count }
+    ensures { result ≡ initialisers.char_count_of_element
+        (shape_or_void (option_copied element.entry)) count }
 {
     match element {
         Some(TypeShape::Integer { bytes, .. }) => { if *bytes == 1 { Some(count) } else { None } }
@@ -45,7 +46,8 @@ pub(crate) fn char_count(types: &Types, t: TypeId) -> Option<u64>
 
 /// The type itself, as the only item.
 fn whole(t: TypeId, number: u64) -> Option<Slot>
-    ensures { option_map slot_view result ≡ if number == 0 then Some (record { offset = 0; type = t }) else None }
+    ensures { option_map slot_view result ≡ if number == 0 then Some
+        (record { offset = 0; type = t }) else None }
 {
     if number == 0 {
         Some(Slot { offset: 0, ty: t })
@@ -60,7 +62,8 @@ fn element(types: &Types, t: TypeId, element: TypeId, count: u64, number: u64) -
     requires formed { IsWellFormed types.now }
     requires shape { shape_at types.now t ≡ Array element count }
     requires complete { IsComplete types.now element }
-    ensures { option_map slot_view result ≡ initialisers.slot_of_shape types.now t (Array element count) number }
+    ensures { option_map slot_view result ≡ initialisers.slot_of_shape types.now t
+        (Array element count) number }
 {
     if number >= count {
         return None;
@@ -75,7 +78,8 @@ fn element(types: &Types, t: TypeId, element: TypeId, count: u64, number: u64) -
 fn member(types: &Types, t: TypeId, declaration: u32, number: u64) -> Option<Slot>
     requires typed { IsType types.now t }
     requires shape { shape_at types.now t ≡ Struct declaration }
-    ensures { option_map slot_view result ≡ initialisers.slot_of_shape types.now t (Struct declaration) number }
+    ensures { option_map slot_view result ≡ initialisers.slot_of_shape types.now t
+        (Struct declaration) number }
 {
     if number >= types.fields(t) as u64 {
         return None;
@@ -92,7 +96,8 @@ fn member(types: &Types, t: TypeId, declaration: u32, number: u64) -> Option<Slo
 fn first_member(types: &Types, t: TypeId, declaration: u32, number: u64) -> Option<Slot>
     requires typed { IsType types.now t }
     requires shape { shape_at types.now t ≡ Union declaration }
-    ensures { option_map slot_view result ≡ initialisers.slot_of_shape types.now t (Union declaration) number }
+    ensures { option_map slot_view result ≡ initialisers.slot_of_shape types.now t
+        (Union declaration) number }
 {
     if number != 0 {
         return None;
@@ -110,7 +115,8 @@ fn first_member(types: &Types, t: TypeId, declaration: u32, number: u64) -> Opti
 /// What the item with a number initialises in a type: an element, a member, or a scalar itself.
 #[tactic(auto, using(crate::proofs::SlotLaws::element_complete))]
 pub(crate) fn listed_slot(types: &Types, t: TypeId, number: u64) -> Option<Slot>
-    ensures { option_map slot_view result ≡ initialisers.slot_of_shape types.now t (shape_at types.now t) number }
+    ensures { option_map slot_view result ≡ initialisers.slot_of_shape types.now t
+        (shape_at types.now t) number }
 {
     if t.0 >= types.count() {
         return None;

@@ -30,7 +30,8 @@ pub(crate) fn text(
     count: u64,
     pieces: &[StringPiece],
 ) -> Result<Boxed<TypedInitialiser>, Fault>
-    ensures { Answers typed_initialiser_view (judging.text at count pieces.now (state_of context.old)) result (state_of context.new) }
+    ensures { Answers typed_initialiser_view (judging.text at count pieces.now
+        (state_of context.old)) result (state_of context.new) }
 {
     let alloc = context.scope.alloc();
     let bytes = pieces_bytes(alloc, pieces)?;

@@ -72,7 +72,8 @@ pub fn begun(
     at: Place,
     name: Option<&Identifier>,
 ) -> Result<Option<TypeId>, Fault>
-    ensures { Answers (λ t. t) (specifying.begun which at (option_copied name.entry) (known types.old scope.old)) result (known types.new scope.new) }
+    ensures { Answers (λ t. t) (specifying.begun which at (option_copied name.entry)
+        (known types.old scope.old)) result (known types.new scope.new) }
 {
     let found = tag_named_here(scope, name);
     if is_taken_tag(scope, types, which, found) {
@@ -107,7 +108,8 @@ fn aggregate_fault(
     begun: Option<TypeId>,
     is_empty: bool,
 ) -> Option<Fault>
-    ensures { result ≡ first_broken (tests.aggregate_tests (specifying.is_taken_at_end (known types.now scope.now) begun) place is_empty) }
+    ensures { result ≡ first_broken (tests.aggregate_tests
+        (specifying.is_taken_at_end (known types.now scope.now) begun) place is_empty) }
 {
     if is_taken_at_end(scope, types, begun) {
         return Some(refusal(place, Rule::Redeclared));
@@ -120,7 +122,8 @@ fn aggregate_fault(
 
 /// Whether all of them are complete in the table.
 fn are_complete(types: &Types, members: &[TypeId]) -> bool
-    ensures { result ≡ list_all (λ m. nat_lt m.0 (length types.now) && is_complete (entry_at types.now m)) members.now }
+    ensures { result ≡ list_all (λ m. nat_lt m.0 (length types.now) && is_complete
+        (entry_at types.now m)) members.now }
 {
     let count = types.count();
     members.iter().all(|m| m.0 < count && types.is_complete(*m))
@@ -146,7 +149,8 @@ fn defined(
     t: TypeId,
     members: Vec<TypeId>,
 ) -> Result<TypeId, Fault>
-    ensures { Answers (λ t. t) (specifying.defined at t members.items (known types.old scope.now)) result (known types.new scope.now) }
+    ensures { Answers (λ t. t) (specifying.defined at t members.items (known types.old scope.now))
+        result (known types.new scope.now) }
 {
     if !is_definable(types, t, &members) {
         return Err(no_room(at));
@@ -160,7 +164,8 @@ fn defined(
 
 /// From here on the struct or union is complete.
 fn complete(scope: &mut Scope, types: &Types, t: TypeId, names: MemberNames)
-    ensures { scope.new ≡ with_scopes scope.old (specifying.completing (number_of_shape (shape_at types.now t)) names scope.old.scopes) }
+    ensures { scope.new ≡ with_scopes scope.old (specifying.completing
+        (number_of_shape (shape_at types.now t)) names scope.old.scopes) }
 {
     match shape_at(types, t) {
         Some(TypeShape::Struct(number) | TypeShape::Union(number)) => {
@@ -172,7 +177,8 @@ fn complete(scope: &mut Scope, types: &Types, t: TypeId, names: MemberNames)
 
 /// The types of the members of a row, behind those before it.
 fn push_row_types(types: &mut Vec<TypeId>, row: &[TypedDeclarator]) -> Result<(), NoMemory>
-    ensures { OnOk result (types.new.items ≡ types.old.items ++ declarator_types (typed_member_declarators_of (map typed_declarator_view row.now))) }
+    ensures { OnOk result (types.new.items ≡ types.old.items ++ declarator_types
+        (typed_member_declarators_of (map typed_declarator_view row.now))) }
 {
     for d in row {
         types.push(d.ty)?;
@@ -182,7 +188,8 @@ fn push_row_types(types: &mut Vec<TypeId>, row: &[TypedDeclarator]) -> Result<()
 
 /// The types of members, in the order of their declarations.
 fn member_types(scope: &Scope, rows: &[TypedMembers]) -> Result<Vec<TypeId>, NoMemory>
-    ensures { IfOk result (λ types. types.items ≡ member_types (added NoMember (map typed_members_view rows.now))) }
+    ensures { IfOk result (λ types. types.items
+        ≡ member_types (added NoMember (map typed_members_view rows.now))) }
 {
     let mut types = Vec::new(scope.alloc());
     for row in rows {
@@ -194,7 +201,8 @@ fn member_types(scope: &Scope, rows: &[TypedMembers]) -> Result<Vec<TypeId>, NoM
 /// Whether it is a row, as each is.
 #[tactic(auto, using(c_tree::proofs::TypedViewLaws::typed_views))]
 fn is_some_row(row: &TypedMembers) -> bool
-    ensures { (all : typed.TypedMembers) → is_empty_row (typed_members_view row.now all) ≡ not result }
+    ensures { (all : typed.TypedMembers) → is_empty_row (typed_members_view row.now all)
+        ≡ not result }
 {
     let _declarators = row.declarators.is_empty();
     true
@@ -222,7 +230,9 @@ fn completed(
     begun: Option<TypeId>,
 ) -> Result<TypeId, Fault>
     requires { names ≡ member_names (added NoMember (map typed_members_view rows.now)) }
-    ensures { Answers (λ t. t) (specifying.completed at (added NoMember (map typed_members_view rows.now)) begun (known types.old scope.old)) result (known types.new scope.new) }
+    ensures { Answers (λ t. t) (specifying.completed at (added NoMember
+        (map typed_members_view rows.now)) begun (known types.old scope.old)) result
+        (known types.new scope.new) }
 {
     let Some(t) = begun else {
         return Err(no_room(at));
@@ -246,7 +256,11 @@ pub fn ended(
     names: MemberNames,
 ) -> Result<(TypeId, Words), Fault>
     requires { names ≡ member_names (added NoMember (map typed_members_view rows.now)) }
-    ensures answers { (which : AggregateKind) (brace : Place) → let members = added NoMember (map typed_members_view rows.now) in Answers (λ r. typed.Aggregate which at (option_copied name.entry) brace members r.0) (specifying.ended before.now which at (option_copied name.entry) brace begun members (known types.old scope.old)) result (known types.new scope.new) }
+    ensures answers { (which : AggregateKind) (brace : Place)
+        → let members = added NoMember (map typed_members_view rows.now) in Answers
+        (λ r. typed.Aggregate which at (option_copied name.entry) brace members r.0)
+        (specifying.ended before.now which at (option_copied name.entry) brace begun members
+        (known types.old scope.old)) result (known types.new scope.new) }
     ensures counts { IfOk result (λ r. r.1 ≡ one_named before.now) }
 {
     let place = tag_place(at, name);

@@ -25,7 +25,8 @@ pub enum Derived {
 /// What a part is that stands behind others.
 #[tactic(auto, using(c_tree::proofs::ViewLaws::expr_views))]
 fn by_part(part: &Part) -> Derived
-    ensures { (all : Parts) (outer : declaring.Derived) → declaring.by_parts (part_view part.now all) outer ≡ declaring.by_parts all (derived_view result) }
+    ensures { (all : Parts) (outer : declaring.Derived) → declaring.by_parts
+        (part_view part.now all) outer ≡ declaring.by_parts all (derived_view result) }
 {
     match part {
         Part::Array(at, _, None) => Derived::ByArray(*at),
@@ -37,7 +38,8 @@ fn by_part(part: &Part) -> Derived
 /// The first of several parts is the one nearest to the name.
 #[tactic(auto, using(c_tree::proofs::PushLaws::pushes))]
 fn by_parts(parts: &[Part], outer: Derived) -> Derived
-    ensures { derived_view result ≡ declaring.by_parts (added NoPart (map part_view parts.now)) (derived_view outer) }
+    ensures { derived_view result ≡ declaring.by_parts (added NoPart (map part_view parts.now))
+        (derived_view outer) }
 {
     let mut rest = parts;
     let mut nearest = outer;
@@ -52,7 +54,8 @@ fn by_parts(parts: &[Part], outer: Derived) -> Derived
 #[cycle(derived_by)]
 #[tactic(auto, using(c_tree::proofs::ViewLaws::expr_views))]
 pub fn derived_by(d: &Declarator, outer: Derived) -> Derived
-    ensures { derived_view result ≡ declaring.derived_by (declarator_view d.now) (derived_view outer) }
+    ensures { derived_view result ≡ declaring.derived_by (declarator_view d.now)
+        (derived_view outer) }
 {
     let stars = match d.stars.as_slice().split_first() {
         Some(_) => Derived::ByStar,
@@ -64,7 +67,8 @@ pub fn derived_by(d: &Declarator, outer: Derived) -> Derived
 #[cycle(derived_by)]
 #[tactic(auto, using(c_tree::proofs::ViewLaws::expr_views))]
 fn derived_by_core(core: &Core, outer: Derived) -> Derived
-    ensures { derived_view result ≡ declaring.derived_by_core (core_view core.now) (derived_view outer) }
+    ensures { derived_view result ≡ declaring.derived_by_core (core_view core.now)
+        (derived_view outer) }
 {
     match core {
         Core::Names(_) => outer,
@@ -75,7 +79,8 @@ fn derived_by_core(core: &Core, outer: Derived) -> Derived
 
 /// What stands nearest to the name of a declarator that may be left out.
 pub fn derived_by_declared(d: &Option<Declarator>) -> Derived
-    ensures { derived_view result ≡ declaring.derived_by_declared (declared_of (option_map declarator_view d.now)) }
+    ensures { derived_view result ≡ declaring.derived_by_declared
+        (declared_of (option_map declarator_view d.now)) }
 {
     match d {
         Some(d) => derived_by(d, Derived::Nothing),
@@ -97,7 +102,8 @@ pub fn is_function_by(types: &Types, derived: Derived, base: TypeId) -> bool
 
 /// The place at which a parameter is made a pointer, if it is.
 pub fn adjusted_at(types: &Types, derived: Derived, base: TypeId, named: Place) -> Option<Place>
-    ensures { result ≡ declaring.adjusted_at (derived_view derived) (shape_at types.now base) named }
+    ensures { result ≡ declaring.adjusted_at (derived_view derived)
+        (shape_at types.now base) named }
 {
     match derived {
         Derived::ByArray(at) => Some(at),

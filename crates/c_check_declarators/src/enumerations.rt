@@ -29,7 +29,8 @@ pub fn is_taken_enumeration(found: Option<Tag>) -> bool
 /// `enum E { .. }` begins: its tag is declared, unless the innermost scope has it.
 #[tactic(auto, unfolding(c_typing::specs::Specifying::enumeration_begun))]
 pub fn enumeration_begun(scope: &mut Scope, name: Option<&Identifier>) -> Result<(), Fault>
-    ensures { (table : Table) → Answers (λ u. true) (specifying.enumeration_begun (option_copied name.entry) (known table scope.old)) result (known table scope.new) }
+    ensures { (table : Table) → Answers (λ u. true) (specifying.enumeration_begun
+        (option_copied name.entry) (known table scope.old)) result (known table scope.new) }
 {
     if tag_named_here(scope, name).is_some() {
         return Ok(());
@@ -40,7 +41,8 @@ pub fn enumeration_begun(scope: &mut Scope, name: Option<&Identifier>) -> Result
 
 /// It ends: from here on its tag is complete.
 pub fn enumeration_ended(scope: &mut Scope, name: Option<&Identifier>) -> Result<(), NoMemory>
-    ensures { OnOk result (scope.new ≡ with_scopes scope.old (enumerated (option_copied name.entry) scope.old.scopes)) }
+    ensures { OnOk result (scope.new ≡ with_scopes scope.old
+        (enumerated (option_copied name.entry) scope.old.scopes)) }
 {
     match name {
         Some(name) => scope.set_tag(name.bytes.as_slice(), Tag::Enumeration),

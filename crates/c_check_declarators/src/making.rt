@@ -45,7 +45,8 @@ fn array_type(
     element: TypeId,
     count: u64,
 ) -> Result<TypeId, Fault>
-    ensures { Answers (λ t. t) (declaring.array_type at element count (known types.old scope.now)) result (known types.new scope.now) }
+    ensures { Answers (λ t. t) (declaring.array_type at element count (known types.old scope.now))
+        result (known types.new scope.now) }
 {
     if element.0 >= types.count() || !types.is_complete(element) || count == 0 {
         return Err(no_room(at));
@@ -63,7 +64,8 @@ fn array_of(
     count: Option<u64>,
     element: TypeId,
 ) -> Result<TypeId, Fault>
-    ensures { Answers (λ t. t) (declaring.array_of at (nearest_view nearest) count element (known types.old scope.now)) result (known types.new scope.now) }
+    ensures { Answers (λ t. t) (declaring.array_of at (nearest_view nearest) count element
+        (known types.old scope.now)) result (known types.new scope.now) }
 {
     match nearest {
         Nearest::Points(node) => pointer_type(scope, types, at, node, element),
@@ -102,7 +104,8 @@ fn array_fault(
     element: TypeId,
     at: Place,
 ) -> Option<Fault>
-    ensures { result ≡ first_broken (tests.array_tests types.now scope.now.scopes (nearest_view nearest) sized bracket words.now element at) }
+    ensures { result ≡ first_broken (tests.array_tests types.now scope.now.scopes
+        (nearest_view nearest) sized bracket words.now element at) }
 {
     if lacks_size(nearest, sized) {
         return Some(refusal(bracket, Rule::Incomplete));
@@ -128,7 +131,8 @@ fn array_makes(
     count: Option<u64>,
     element: TypeId,
 ) -> Result<TypeId, Fault>
-    ensures { Answers (λ t. t) (declaring.array_makes at (nearest_view nearest) bracket words.now count element (known types.old scope.now)) result (known types.new scope.now) }
+    ensures { Answers (λ t. t) (declaring.array_makes at (nearest_view nearest) bracket words.now
+        count element (known types.old scope.now)) result (known types.new scope.now) }
 {
     if let Some(fault) = array_fault(
         scope,
@@ -172,7 +176,8 @@ fn function_type(
     parameters: Vec<TypeId>,
     gives: TypeId,
 ) -> Result<TypeId, Fault>
-    ensures { Answers (λ t. t) (declaring.function_type at parameters.items gives (known types.old scope.now)) result (known types.new scope.now) }
+    ensures { Answers (λ t. t) (declaring.function_type at parameters.items gives
+        (known types.old scope.now)) result (known types.new scope.now) }
 {
     if gives.0 >= types.count() || !are_types(types, &parameters) {
         return Err(no_room(at));
@@ -196,7 +201,8 @@ fn function_type(
 /// Whether specifiers are the word `void` by itself.
 #[tactic(auto, using(c_tree::proofs::TypedViewLaws::typed_views, c_tree::proofs::TypedPushLaws::typed_pushes))]
 fn is_void_word(specifiers: &[TypedSpecifier]) -> bool
-    ensures { result ≡ is_void_word (typed_specifiers_of (map typed_specifier_view specifiers.now)) }
+    ensures { result ≡ is_void_word (typed_specifiers_of
+        (map typed_specifier_view specifiers.now)) }
 {
     let Some((last, before)) = specifiers.split_last() else {
         return false;
@@ -221,7 +227,8 @@ fn is_void_itself(one: &TypedParameter) -> bool
 /// Of two parameters none is `void`.
 #[tactic(auto, using(c_tree::proofs::TypedViewLaws::typed_views))]
 fn is_void_behind(last: &TypedParameter, other: &TypedParameter) -> bool
-    ensures { (all : TypedParameters) → result ≡ is_void_list (typed_parameter_view last.now (typed_parameter_view other.now all)) }
+    ensures { (all : TypedParameters) → result ≡ is_void_list
+        (typed_parameter_view last.now (typed_parameter_view other.now all)) }
 {
     let (_last, _other) = (last.ty, other.ty);
     false
@@ -244,7 +251,8 @@ fn is_void_alone(parameters: &[TypedParameter]) -> bool
 /// The type of a parameter, as its function takes it.
 #[tactic(auto, using(c_tree::proofs::TypedViewLaws::typed_views))]
 fn taken_type(one: &TypedParameter) -> TypeId
-    ensures { (all : TypedParameters) → parameter_types (typed_parameter_view one.now all) ≡ parameter_types all ++ result ∷ [] }
+    ensures { (all : TypedParameters) → parameter_types (typed_parameter_view one.now all)
+        ≡ parameter_types all ++ result ∷ [] }
 {
     one.ty
 }
@@ -252,7 +260,8 @@ fn taken_type(one: &TypedParameter) -> TypeId
 /// The types that a function takes.
 #[tactic(auto, using(c_tree::proofs::PushLaws::pushes))]
 fn taken_types(scope: &Scope, parameters: &[TypedParameter]) -> Result<Vec<TypeId>, NoMemory>
-    ensures { IfOk result (λ types. types.items ≡ taken_types (added NoParameter (map typed_parameter_view parameters.now))) }
+    ensures { IfOk result (λ types. types.items ≡ taken_types
+        (added NoParameter (map typed_parameter_view parameters.now))) }
 {
     let mut types = Vec::new(scope.alloc());
     if is_void_alone(parameters) {
@@ -274,7 +283,9 @@ fn function_makes(
     parameters: &[TypedParameter],
     gives: TypeId,
 ) -> Result<TypeId, Fault>
-    ensures { Answers (λ t. t) (declaring.function_makes at (nearest_view nearest) (added NoParameter (map typed_parameter_view parameters.now)) gives (known types.old scope.now)) result (known types.new scope.now) }
+    ensures { Answers (λ t. t) (declaring.function_makes at (nearest_view nearest)
+        (added NoParameter (map typed_parameter_view parameters.now)) gives
+        (known types.old scope.now)) result (known types.new scope.now) }
 {
     if let Some(fault) = function_fault(types, gives, at) {
         return Err(fault);
@@ -297,7 +308,9 @@ fn part_makes(
     part: &TypedPart,
     base: TypeId,
 ) -> Result<TypeId, Fault>
-    ensures { (all : TypedParts) → Answers (λ t. t) (declaring.last_makes at (nearest_view nearest) (typed_part_view part.now all) base (known types.old scope.now)) result (known types.new scope.now) }
+    ensures { (all : TypedParts) → Answers (λ t. t) (declaring.last_makes at (nearest_view nearest)
+        (typed_part_view part.now all) base (known types.old scope.now)) result
+        (known types.new scope.now) }
 {
     match part {
         TypedPart::Array(bracket, words) => array_makes(
@@ -330,8 +343,12 @@ fn part_makes(
 #[tactic(auto, using(c_tree::proofs::TypedViewLaws::typed_views), unfolding(c_typing::specs::Declaring::parts_make))]
 fn is_some_part(part: &TypedPart) -> bool
     ensures part { (all : TypedParts) → is_no_part (typed_part_view part.now all) ≡ not result }
-    ensures nearest { (all : TypedParts) (outermost : Outermost) → result ≡ true → nearest (typed_part_view part.now all) outermost ≡ Written }
-    ensures last_first { (all : TypedParts) (at : Place) (outermost : Outermost) (base : TypeId) (s : State) → declaring.parts_make at outermost (typed_part_view part.now all) base s ≡ next (declaring.last_makes at (nearest all outermost) (typed_part_view part.now all) base s) (declaring.parts_make at outermost all) }
+    ensures nearest { (all : TypedParts) (outermost : Outermost) → result ≡ true
+        → nearest (typed_part_view part.now all) outermost ≡ Written }
+    ensures last_first { (all : TypedParts) (at : Place) (outermost : Outermost) (base : TypeId)
+        (s : State) → declaring.parts_make at outermost (typed_part_view part.now all) base s
+        ≡ next (declaring.last_makes at (nearest all outermost)
+        (typed_part_view part.now all) base s) (declaring.parts_make at outermost all) }
 {
     match part {
         TypedPart::Array(_, _) => true,
@@ -343,7 +360,8 @@ fn is_some_part(part: &TypedPart) -> bool
 /// What a part is that stands behind these others.
 #[tactic(auto, using(c_tree::proofs::PushLaws::pushes))]
 fn nearest_of(before: &[TypedPart], own: Nearest) -> Nearest
-    ensures { nearest_view result ≡ nearest (added NoPart (map typed_part_view before.now)) (nearest_view own) }
+    ensures { nearest_view result ≡ nearest (added NoPart (map typed_part_view before.now))
+        (nearest_view own) }
 {
     let Some((part, _)) = before.split_last() else {
         return own;
@@ -365,7 +383,9 @@ fn parts_make(
     parts: &[TypedPart],
     base: TypeId,
 ) -> Result<TypeId, Fault>
-    ensures { Answers (λ t. t) (declaring.parts_make at (nearest_view nearest) (added NoPart (map typed_part_view parts.now)) base (known types.old scope.now)) result (known types.new scope.now) }
+    ensures { Answers (λ t. t) (declaring.parts_make at (nearest_view nearest)
+        (added NoPart (map typed_part_view parts.now)) base (known types.old scope.now)) result
+        (known types.new scope.now) }
 {
     let mut rest = parts;
     let mut t = base;
@@ -386,7 +406,8 @@ fn stars_make(
     stars: &[TypedStar],
     base: TypeId,
 ) -> Result<TypeId, Fault>
-    ensures { Answers (λ t. t) (declaring.stars_make at stars.now base (known types.old scope.now)) result (known types.new scope.now) }
+    ensures { Answers (λ t. t) (declaring.stars_make at stars.now base (known types.old scope.now))
+        result (known types.new scope.now) }
 {
     let mut rest = stars;
     let mut t = base;
@@ -437,7 +458,9 @@ pub fn form_makes(
     form: &TypedForm,
     base: TypeId,
 ) -> Result<TypeId, Fault>
-    ensures { Answers (λ t. t) (declaring.form_makes at (nearest_view nearest) (typed_form_view form.now) base (known types.old scope.now)) result (known types.new scope.now) }
+    ensures { Answers (λ t. t) (declaring.form_makes at (nearest_view nearest)
+        (typed_form_view form.now) base (known types.old scope.now)) result
+        (known types.new scope.now) }
 {
     let t = stars_make(scope, types, at, form.stars.as_slice(), base)?;
     let own = if is_derived_core(&form.core) {
@@ -462,7 +485,9 @@ pub fn declared_makes(
     declared: Option<&TypedForm>,
     base: TypeId,
 ) -> Result<TypeId, Fault>
-    ensures { Answers (λ t. t) (declaring.declared_makes at (nearest_view nearest) (typed_declared_of (option_map typed_form_view (option_copied declared.entry))) base (known types.old scope.now)) result (known types.new scope.now) }
+    ensures { Answers (λ t. t) (declaring.declared_makes at (nearest_view nearest)
+        (typed_declared_of (option_map typed_form_view (option_copied declared.entry))) base
+        (known types.old scope.now)) result (known types.new scope.now) }
 {
     match declared {
         Some(form) => form_makes(scope, types, at, nearest, form, base),

@@ -81,7 +81,8 @@ pub(crate) fn specifiers_place(specifiers: &Specifiers) -> Place
 /// The place at which the type of a declarator is named: that of its name, or else of its first specifier.
 #[tactic(auto, using(c_tree::proofs::ViewLaws::expr_views))]
 pub fn declared_place(specifiers: &Specifiers, d: &Option<Declarator>) -> Place
-    ensures { result ≡ walks.declared_place (specifiers_view specifiers.now) (declared_of (option_map declarator_view d.now)) }
+    ensures { result ≡ walks.declared_place (specifiers_view specifiers.now)
+        (declared_of (option_map declarator_view d.now)) }
 {
     let at = specifiers_place(specifiers);
     match d {

@@ -25,7 +25,8 @@ use cc_base::{Fault, NoMemory, Place, Rule, TypeId};
 /// A storage word, a qualifier, or a word for a type.
 #[tactic(auto, using(c_tree::proofs::TypedViewLaws::typed_views), unfolding(c_typing::specs::Specifying::word))]
 pub fn word(before: &Words, w: Word) -> Result<(TypedSpecifier, Words), Fault>
-    ensures answers { (s : State) → Answers (λ r. typed_specifier_view r.0) (specifying.word before.now w s) result s }
+    ensures answers { (s : State) → Answers (λ r. typed_specifier_view r.0)
+        (specifying.word before.now w s) result s }
     ensures counts { IfOk result (λ r. r.1 ≡ counting (typed_specifier_view r.0) before.now) }
 {
     match before.with_word(w.keyword) {
@@ -37,7 +38,8 @@ pub fn word(before: &Words, w: Word) -> Result<(TypedSpecifier, Words), Fault>
 /// The type that a typedef gave a name.
 #[tactic(auto, unfolding(c_typing::specs::Specifying::typedef_named))]
 fn typedef_named(scope: &Scope, name: &Identifier) -> Result<TypeId, Fault>
-    ensures { (s : State) → Answers (Typedef name.now) (specifying.typedef_named name.now (name_in scope.now.scopes.levels name.now.bytes) s) result s }
+    ensures { (s : State) → Answers (Typedef name.now) (specifying.typedef_named name.now
+        (name_in scope.now.scopes.levels name.now.bytes) s) result s }
 {
     match scope.name(name.bytes.as_slice()) {
         Some(Declared::Typedef(t)) => Ok(*t),
@@ -53,7 +55,9 @@ pub fn typedef_name(
     before: &Words,
     name: &Identifier,
 ) -> Result<(TypedSpecifier, Words), Fault>
-    ensures answers { Answers (λ r. typed_specifier_view r.0) (specifying.typedef_name before.now name.now (known types.now scope.now)) result (known types.now scope.now) }
+    ensures answers { Answers (λ r. typed_specifier_view r.0)
+        (specifying.typedef_name before.now name.now (known types.now scope.now)) result
+        (known types.now scope.now) }
     ensures counts { IfOk result (λ r. r.1 ≡ counting (typed_specifier_view r.0) before.now) }
 {
     let _count = types.count();
@@ -81,7 +85,8 @@ pub fn declare_tag_of(
     what: Tag,
 ) -> Result<(), NoMemory>
     requires { tag_named_here scope.old.scopes (option_copied name) ≡ None }
-    ensures { OnOk result (scope.new ≡ with_scopes scope.old (tagging (option_copied name.entry) what scope.old.scopes)) }
+    ensures { OnOk result (scope.new ≡ with_scopes scope.old
+        (tagging (option_copied name.entry) what scope.old.scopes)) }
 {
     match name {
         Some(name) => scope.declare_tag(name.bytes.as_slice(), what),
@@ -99,7 +104,8 @@ pub(crate) fn new_aggregate(
     name: Option<&Identifier>,
 ) -> Result<TypeId, Fault>
     requires { tag_named_here scope.old.scopes (option_copied name) ≡ None }
-    ensures { Answers (λ t. t) (specifying.new_aggregate which at (option_copied name.entry) (known types.old scope.old)) result (known types.new scope.new) }
+    ensures { Answers (λ t. t) (specifying.new_aggregate which at (option_copied name.entry)
+        (known types.old scope.old)) result (known types.new scope.new) }
 {
     let Ok(number) = u32::try_from(scope.aggregates()) else {
         return Err(no_room(at));
@@ -133,7 +139,8 @@ fn is_other_tag(which: AggregateKind, found: Option<&Tag>) -> bool
 
 /// The rules of `struct S` and `union U`.
 fn tag_fault(scope: &Scope, which: AggregateKind, name: &Identifier) -> Option<Fault>
-    ensures { result ≡ first_broken (tests.tag_tests scope.now.scopes (tests.is_tag_of which) name.now.bytes name.now.place) }
+    ensures { result ≡ first_broken (tests.tag_tests scope.now.scopes
+        (tests.is_tag_of which) name.now.bytes name.now.place) }
 {
     if is_other_tag(which, scope.tag_here(name.bytes.as_slice())) {
         return Some(refusal(name.place, Rule::Redeclared));
@@ -154,7 +161,8 @@ fn tagged_as(
     found: Option<Tag>,
 ) -> Result<TypeId, Fault>
     requires { found ≡ None → tag_here scope.old.scopes.levels name.now.bytes ≡ None }
-    ensures { Answers (λ t. t) (specifying.tagged_as which name.now found (known types.old scope.old)) result (known types.new scope.new) }
+    ensures { Answers (λ t. t) (specifying.tagged_as which name.now found
+        (known types.old scope.old)) result (known types.new scope.new) }
 {
     match found {
         Some(Tag::Aggregate(_, t)) => Ok(t),
@@ -174,7 +182,9 @@ pub fn tagged(
     at: Place,
     name: &Identifier,
 ) -> Result<(TypedSpecifier, Words), Fault>
-    ensures answers { Answers (λ r. typed_specifier_view r.0) (specifying.tagged before.now which at name.now (known types.old scope.old)) result (known types.new scope.new) }
+    ensures answers { Answers (λ r. typed_specifier_view r.0)
+        (specifying.tagged before.now which at name.now (known types.old scope.old)) result
+        (known types.new scope.new) }
     ensures counts { IfOk result (λ r. r.1 ≡ counting (typed_specifier_view r.0) before.now) }
 {
     if let Some(fault) = tag_fault(scope, which, name) {
@@ -198,8 +208,12 @@ pub fn tagged_alone(
     at: Place,
     name: &Identifier,
 ) -> Result<(TypedSpecifier, TypeId), Fault>
-    ensures answers { Answers (λ r. typed_specifier_view r.0) (specifying.tagged_alone which at name.now (known types.old scope.old)) result (known types.new scope.new) }
-    ensures listed { IfOk result (λ r. (named : Named) (words : Counted) → specifying.listed_type (named_by_specifier (typed_specifier_view r.0) named) words ≡ r.1) }
+    ensures answers { Answers (λ r. typed_specifier_view r.0)
+        (specifying.tagged_alone which at name.now (known types.old scope.old)) result
+        (known types.new scope.new) }
+    ensures listed { IfOk result (λ r. (named : Named) (words : Counted)
+        → specifying.listed_type (named_by_specifier (typed_specifier_view r.0) named) words
+        ≡ r.1) }
 {
     if is_other_tag(which, scope.tag_here(name.bytes.as_slice())) {
         return Err(refusal(name.place, Rule::Redeclared));
@@ -234,7 +248,8 @@ fn is_no_enumeration(found: Option<&Tag>) -> bool
 
 /// The rules of `enum E` without a list.
 fn enum_fault(scope: &Scope, name: &Identifier) -> Option<Fault>
-    ensures { result ≡ first_broken (tests.enum_tests scope.now.scopes name.now.bytes name.now.place) }
+    ensures { result ≡ first_broken (tests.enum_tests scope.now.scopes name.now.bytes
+        name.now.place) }
 {
     if lacks_enumeration(scope.tag(name.bytes.as_slice())) {
         return Some(refusal(name.place, Rule::UnknownName));
@@ -257,7 +272,9 @@ pub fn enum_named(
     at: Place,
     name: &Identifier,
 ) -> Result<(TypedSpecifier, Words), Fault>
-    ensures answers { Answers (λ r. typed_specifier_view r.0) (specifying.enum_tag before.now at name.now (known types.now scope.now)) result (known types.now scope.now) }
+    ensures answers { Answers (λ r. typed_specifier_view r.0)
+        (specifying.enum_tag before.now at name.now (known types.now scope.now)) result
+        (known types.now scope.now) }
     ensures counts { IfOk result (λ r. r.1 ≡ counting (typed_specifier_view r.0) before.now) }
 {
     let _count = types.count();

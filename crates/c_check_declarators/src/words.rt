@@ -106,7 +106,8 @@ impl Words {
 
     /// With a word more, if it goes with them.
     pub(crate) fn with_word(&self, word: Keyword) -> Option<Words>
-        ensures { result ≡ (if are_allowed (counting_word word self.now) then Some (counting_word word self.now) else None) }
+        ensures { result ≡ (if are_allowed (counting_word word self.now) then Some
+            (counting_word word self.now) else None) }
     {
         let t = with_type_word(self.0, word);
         if is_allowed(t) { Some(Words(t)) } else { None }
@@ -114,7 +115,8 @@ impl Words {
 
     /// With a name of a type more, if it goes with them.
     pub fn with_name(&self) -> Option<Words>
-        ensures { result ≡ (if are_allowed (one_named self.now) then Some (one_named self.now) else None) }
+        ensures { result ≡ (if are_allowed (one_named self.now) then Some
+            (one_named self.now) else None) }
     {
         let t = with_one_named(self.0);
         if is_allowed(t) { Some(Words(t)) } else { None }

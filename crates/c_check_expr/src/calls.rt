@@ -46,12 +46,26 @@ use cc_base::{Fault, Place, TypeId};
 /// The value of an expression; a struct is not read (C99 6.5). Tags and enumerators that it declares are added to the scope. A refusal is
 /// that of the first rule that fails in the order of the text; after it types, tags, enumerators and nodes of what stands before may be there.
 pub fn check_expr(scope: &mut Scope, types: &mut Types, e: &Expr) -> Result<TypedExpr, Fault>
-    ensures judged { Answers typed_expr_view (checking.checked (expr_view e.now) (known types.old scope.old)) result (known types.new scope.new) }
-    ensures typed { IsKnown (known types.old scope.old) → IfOk result (λ v. IsChecked (expr_view e.now) (typed_expr_view v) (known types.old scope.old) (known types.new scope.new)) }
-    ensures numbered { IsKnown (known types.old scope.old) → IfOk result (λ v. AreNumberedFrom (made_by (typed_expr_view v)) (known types.old scope.old) (known types.new scope.new)) }
-    ensures limited { IfOk result (λ v. IsWithin (expr_holds (expr_view e.now)) (known types.old scope.old) (known types.new scope.new)) }
-    ensures refused { IsKnown (known types.old scope.old) → (p : At) (t : Broken) → result ≡ Err (Refused p t) → IsRefused (λ T. Refuses T false (expr_view e.now) scope.old.scopes (Refused p t)) (known types.old scope.old) (known types.new scope.new) }
-    ensures accepts { (T : Table) (v : typed_tree.TypedExpr) (b : Point) (count : ℕ) → CanBeGiven T (expr_spelling (expr_view e.now)) (made_by v) (used_by T v) (expr_holds (expr_view e.now)) (known types.old scope.old) count → IsRead T (expr_view e.now) v (point_at (known types.old scope.old)) b → is_taken_over (bare v) ≡ false → runtime_named (bare v) ≡ None → IsTaken typed_expr_view (bare v) T (made_by v) (known types.old scope.old) b count result (known types.new scope.new) }
+    ensures judged { Answers typed_expr_view (checking.checked (expr_view e.now)
+        (known types.old scope.old)) result (known types.new scope.new) }
+    ensures typed { IsKnown (known types.old scope.old) → IfOk result
+        (λ v. IsChecked (expr_view e.now) (typed_expr_view v) (known types.old scope.old)
+        (known types.new scope.new)) }
+    ensures numbered { IsKnown (known types.old scope.old) → IfOk result
+        (λ v. AreNumberedFrom (made_by (typed_expr_view v)) (known types.old scope.old)
+        (known types.new scope.new)) }
+    ensures limited { IfOk result (λ v. IsWithin (expr_holds (expr_view e.now))
+        (known types.old scope.old) (known types.new scope.new)) }
+    ensures refused { IsKnown (known types.old scope.old) → (p : At) (t : Broken) → result
+        ≡ Err (Refused p t) → IsRefused (λ T. Refuses T false (expr_view e.now) scope.old.scopes
+        (Refused p t)) (known types.old scope.old) (known types.new scope.new) }
+    ensures accepts { (T : Table) (v : typed_tree.TypedExpr) (b : Point) (count : ℕ)
+        → CanBeGiven T (expr_spelling (expr_view e.now)) (made_by v) (used_by T v)
+        (expr_holds (expr_view e.now)) (known types.old scope.old) count
+        → IsRead T (expr_view e.now) v (point_at (known types.old scope.old)) b
+        → is_taken_over (bare v) ≡ false → runtime_named (bare v) ≡ None
+        → IsTaken typed_expr_view (bare v) T (made_by v) (known types.old scope.old) b count result
+        (known types.new scope.new) }
 {
     checked(scope, types, e)
 }
@@ -66,13 +80,35 @@ pub fn check_value(
     init: bool,
     e: &Expr,
 ) -> Result<TypedExpr, Fault>
-    ensures judged { Answers typed_expr_view (checking.checked_value to at init (expr_view e.now) (known types.old scope.old)) result (known types.new scope.new) }
-    ensures typed { IsKnown (known types.old scope.old) → IsType types.old to → IfOk result (λ v. IsCheckedFor to at init (expr_view e.now) (typed_expr_view v) (known types.old scope.old) (known types.new scope.new)) }
-    ensures numbered { IsKnown (known types.old scope.old) → IfOk result (λ v. AreNumberedFrom (made_by (typed_expr_view v)) (known types.old scope.old) (known types.new scope.new)) }
-    ensures limited { IfOk result (λ v. IsWithin (expr_holds (expr_view e.now)) (known types.old scope.old) (known types.new scope.new)) }
-    ensures refused { IsKnown (known types.old scope.old) → IsType types.old to → (p : At) (t : Broken) → result ≡ Err (Refused p t) → IsRefused (λ T. ValueFails T to at (expr_view e.now) scope.old.scopes (Refused p t)) (known types.old scope.old) (known types.new scope.new) }
-    ensures accepts { (T : Table) (v : typed_tree.TypedExpr) (b : Point) (count : ℕ) → CanBeGiven T (expr_spelling (expr_view e.now)) (made_by v) (used_by T v) (expr_holds (expr_view e.now)) (known types.old scope.old) count → IsRead T (expr_view e.now) v (point_at (known types.old scope.old)) b → IsType types.old to → BecomesBy init T b.scopes at to v → IsTaken typed_expr_view v T (made_by v) (known types.old scope.old) b count result (known types.new scope.new) }
-    ensures accepts_copied { (T : Table) (p : typed_tree.TypedPlace) (b : Point) (count : ℕ) → CanBeGiven T (expr_spelling (expr_view e.now)) (made_by_place p) (used_by_place T p) (expr_holds (expr_view e.now)) (known types.old scope.old) count → IsReadPlace T (expr_view e.now) p (point_at (known types.old scope.old)) b → init ≡ true → IsType types.old to → IsAggregate T (place_type p) → is_aggregate_shape (shape_at T to) ≡ true → is_same_type T to (place_type p) ≡ true → IsTaken typed_expr_view (typed_tree.Unread p) T (made_by_place p) (known types.old scope.old) b count result (known types.new scope.new) }
+    ensures judged { Answers typed_expr_view (checking.checked_value to at init (expr_view e.now)
+        (known types.old scope.old)) result (known types.new scope.new) }
+    ensures typed { IsKnown (known types.old scope.old) → IsType types.old to
+        → IfOk result (λ v. IsCheckedFor to at init (expr_view e.now) (typed_expr_view v)
+        (known types.old scope.old) (known types.new scope.new)) }
+    ensures numbered { IsKnown (known types.old scope.old) → IfOk result
+        (λ v. AreNumberedFrom (made_by (typed_expr_view v)) (known types.old scope.old)
+        (known types.new scope.new)) }
+    ensures limited { IfOk result (λ v. IsWithin (expr_holds (expr_view e.now))
+        (known types.old scope.old) (known types.new scope.new)) }
+    ensures refused { IsKnown (known types.old scope.old) → IsType types.old to
+        → (p : At) (t : Broken) → result ≡ Err (Refused p t)
+        → IsRefused (λ T. ValueFails T to at (expr_view e.now) scope.old.scopes (Refused p t))
+        (known types.old scope.old) (known types.new scope.new) }
+    ensures accepts { (T : Table) (v : typed_tree.TypedExpr) (b : Point) (count : ℕ)
+        → CanBeGiven T (expr_spelling (expr_view e.now)) (made_by v) (used_by T v)
+        (expr_holds (expr_view e.now)) (known types.old scope.old) count
+        → IsRead T (expr_view e.now) v (point_at (known types.old scope.old)) b
+        → IsType types.old to → BecomesBy init T b.scopes at to v
+        → IsTaken typed_expr_view v T (made_by v) (known types.old scope.old) b count result
+        (known types.new scope.new) }
+    ensures accepts_copied { (T : Table) (p : typed_tree.TypedPlace) (b : Point) (count : ℕ)
+        → CanBeGiven T (expr_spelling (expr_view e.now)) (made_by_place p) (used_by_place T p)
+        (expr_holds (expr_view e.now)) (known types.old scope.old) count
+        → IsReadPlace T (expr_view e.now) p (point_at (known types.old scope.old)) b → init ≡ true
+        → IsType types.old to → IsAggregate T (place_type p) → is_aggregate_shape (shape_at T to)
+        ≡ true → is_same_type T to (place_type p) ≡ true
+        → IsTaken typed_expr_view (typed_tree.Unread p) T (made_by_place p)
+        (known types.old scope.old) b count result (known types.new scope.new) }
 {
     checked_for(scope, types, to, at, init, e)
 }
@@ -83,12 +119,25 @@ pub fn check_constant(
     types: &mut Types,
     e: &Expr,
 ) -> Result<(TypedExpr, i128), Fault>
-    ensures judged { Answers constant_view (checking.checked_constant (expr_view e.now) (known types.old scope.old)) result (known types.new scope.new) }
-    ensures typed { IsKnown (known types.old scope.old) → IfOk result (λ c. IsConstantJudged (expr_view e.now) (constant_view c) (known types.old scope.old) (known types.new scope.new)) }
-    ensures numbered { IsKnown (known types.old scope.old) → IfOk result (λ c. AreNumberedFrom (made_by (constant_view c).expr) (known types.old scope.old) (known types.new scope.new)) }
-    ensures limited { IfOk result (λ v. IsWithin (expr_holds (expr_view e.now)) (known types.old scope.old) (known types.new scope.new)) }
-    ensures refused { IsKnown (known types.old scope.old) → (p : At) (t : Broken) → result ≡ Err (Refused p t) → IsRefused (λ T. ConstantFails T (expr_view e.now) scope.old.scopes (Refused p t)) (known types.old scope.old) (known types.new scope.new) }
-    ensures accepts { (T : Table) (v : typed_tree.TypedExpr) (z : ℤ) (b : Point) (count : ℕ) → CanBeGiven T (expr_spelling (expr_view e.now)) (made_by v) (used_by T v) (expr_holds (expr_view e.now)) (known types.old scope.old) count → IsRead T (expr_view e.now) v (point_at (known types.old scope.old)) b → IsPlain v → constant_value T v ≡ Some z → IsTaken constant_view (record { expr = v; value = z }) T (made_by v) (known types.old scope.old) b count result (known types.new scope.new) }
+    ensures judged { Answers constant_view (checking.checked_constant (expr_view e.now)
+        (known types.old scope.old)) result (known types.new scope.new) }
+    ensures typed { IsKnown (known types.old scope.old) → IfOk result
+        (λ c. IsConstantJudged (expr_view e.now) (constant_view c) (known types.old scope.old)
+        (known types.new scope.new)) }
+    ensures numbered { IsKnown (known types.old scope.old) → IfOk result
+        (λ c. AreNumberedFrom (made_by (constant_view c).expr) (known types.old scope.old)
+        (known types.new scope.new)) }
+    ensures limited { IfOk result (λ v. IsWithin (expr_holds (expr_view e.now))
+        (known types.old scope.old) (known types.new scope.new)) }
+    ensures refused { IsKnown (known types.old scope.old) → (p : At) (t : Broken) → result
+        ≡ Err (Refused p t) → IsRefused (λ T. ConstantFails T (expr_view e.now) scope.old.scopes
+        (Refused p t)) (known types.old scope.old) (known types.new scope.new) }
+    ensures accepts { (T : Table) (v : typed_tree.TypedExpr) (z : ℤ) (b : Point) (count : ℕ)
+        → CanBeGiven T (expr_spelling (expr_view e.now)) (made_by v) (used_by T v)
+        (expr_holds (expr_view e.now)) (known types.old scope.old) count
+        → IsRead T (expr_view e.now) v (point_at (known types.old scope.old)) b → IsPlain v
+        → constant_value T v ≡ Some z → IsTaken constant_view (record { expr = v; value = z }) T
+        (made_by v) (known types.old scope.old) b count result (known types.new scope.new) }
 {
     checked_constant(scope, types, e)
 }
@@ -100,12 +149,29 @@ pub fn check_specifiers(
     specifiers: &Specifiers,
     alone: bool,
 ) -> Result<TypedSpecifiers, Fault>
-    ensures judged { Answers typed_specifiers_view (walks.judge_specifiers_of alone (specifiers_view specifiers.now) (known types.old scope.old)) result (known types.new scope.new) }
-    ensures typed { IsKnown (known types.old scope.old) → IfOk result (λ t. AreSpecifiersJudged alone (specifiers_view specifiers.now) (typed_specifiers_view t) (known types.old scope.old) (known types.new scope.new)) }
-    ensures numbered { IsKnown (known types.old scope.old) → IfOk result (λ t. AreNumberedFrom (made_by_specifiers (typed_specifiers_view t)) (known types.old scope.old) (known types.new scope.new)) }
-    ensures limited { IfOk result (λ v. IsWithin (specifiers_holds (specifiers_view specifiers.now)) (known types.old scope.old) (known types.new scope.new)) }
-    ensures refused { IsKnown (known types.old scope.old) → (p : At) (t : Broken) → result ≡ Err (Refused p t) → IsRefused (λ T. SpecifiersFail alone T (specifiers_view specifiers.now) scope.old.scopes (Refused p t)) (known types.old scope.old) (known types.new scope.new) }
-    ensures accepts { (T : Table) (t : typed_tree.TypedSpecifiers) (b : Point) (count : ℕ) → CanBeGiven T (specifiers_spelling (specifiers_view specifiers.now)) (made_by_specifiers t) (used_by_specifiers T t) (specifiers_holds (specifiers_view specifiers.now)) (known types.old scope.old) count → IsReadAs erased_specifiers made_by_specifiers (AreSpecifiersBy alone T) (specifiers_view specifiers.now) t (point_at (known types.old scope.old)) b → IsTaken typed_specifiers_view t T (made_by_specifiers t) (known types.old scope.old) b count result (known types.new scope.new) }
+    ensures judged { Answers typed_specifiers_view (walks.judge_specifiers_of alone
+        (specifiers_view specifiers.now) (known types.old scope.old)) result
+        (known types.new scope.new) }
+    ensures typed { IsKnown (known types.old scope.old) → IfOk result
+        (λ t. AreSpecifiersJudged alone (specifiers_view specifiers.now) (typed_specifiers_view t)
+        (known types.old scope.old) (known types.new scope.new)) }
+    ensures numbered { IsKnown (known types.old scope.old) → IfOk result
+        (λ t. AreNumberedFrom (made_by_specifiers (typed_specifiers_view t))
+        (known types.old scope.old) (known types.new scope.new)) }
+    ensures limited { IfOk result (λ v. IsWithin (specifiers_holds (specifiers_view specifiers.now))
+        (known types.old scope.old) (known types.new scope.new)) }
+    ensures refused { IsKnown (known types.old scope.old) → (p : At) (t : Broken) → result
+        ≡ Err (Refused p t) → IsRefused (λ T. SpecifiersFail alone T
+        (specifiers_view specifiers.now) scope.old.scopes (Refused p t)) (known types.old scope.old)
+        (known types.new scope.new) }
+    ensures accepts { (T : Table) (t : typed_tree.TypedSpecifiers) (b : Point) (count : ℕ)
+        → CanBeGiven T (specifiers_spelling (specifiers_view specifiers.now)) (made_by_specifiers t)
+        (used_by_specifiers T t) (specifiers_holds (specifiers_view specifiers.now))
+        (known types.old scope.old) count → IsReadAs erased_specifiers made_by_specifiers
+        (AreSpecifiersBy alone T) (specifiers_view specifiers.now) t
+        (point_at (known types.old scope.old)) b → IsTaken typed_specifiers_view t T
+        (made_by_specifiers t) (known types.old scope.old) b count result
+        (known types.new scope.new) }
 {
     specifiers_by(scope, types, specifiers, alone)
 }
@@ -121,13 +187,35 @@ pub fn check_declarator(
     size: Option<u64>,
     naming: Naming,
 ) -> Result<TypedDeclarator, Fault>
-    ensures judged { Answers typed_declarator_view (walks.judge_declarator naming (typed_specifiers_view base.now) size (declarator_view d.now) (known types.old scope.old)) result (known types.new scope.new) }
-    ensures typed { IsKnown (known types.old scope.old) → IsType types.old (specified_type (typed_specifiers_view base.now)) → IfOk result (λ one. IsDeclaratorJudged naming (walks.outermost_of size) (specified_type (typed_specifiers_view base.now)) (declarator_view d.now) (typed_declarator_view one) (known types.old scope.old) (known types.new scope.new)) }
+    ensures judged { Answers typed_declarator_view (walks.judge_declarator naming
+        (typed_specifiers_view base.now) size (declarator_view d.now) (known types.old scope.old))
+        result (known types.new scope.new) }
+    ensures typed { IsKnown (known types.old scope.old) → IsType types.old
+        (specified_type (typed_specifiers_view base.now))
+        → IfOk result (λ one. IsDeclaratorJudged naming (walks.outermost_of size)
+        (specified_type (typed_specifiers_view base.now)) (declarator_view d.now)
+        (typed_declarator_view one) (known types.old scope.old) (known types.new scope.new)) }
     ensures home { IfOk result (λ one. one.home ≡ home_node (home_of (typed_declarator_view one))) }
-    ensures numbered { IsKnown (known types.old scope.old) → IfOk result (λ one. AreNumberedFrom (made_by_declarator (typed_declarator_view one)) (known types.old scope.old) (known types.new scope.new)) }
-    ensures limited { IfOk result (λ v. IsWithin (declarator_holds (declarator_view d.now)) (known types.old scope.old) (known types.new scope.new)) }
-    ensures refused { IsKnown (known types.old scope.old) → IsType types.old (specified_type (typed_specifiers_view base.now)) → (p : At) (t : Broken) → result ≡ Err (Refused p t) → IsRefused (λ T. DeclaratorFails T (walks.outermost_of size) (specified_type (typed_specifiers_view base.now)) (declarator_view d.now) scope.old.scopes (Refused p t)) (known types.old scope.old) (known types.new scope.new) }
-    ensures accepts { (T : Table) (one : typed_tree.TypedDeclarator) (b : Point) (count : ℕ) → CanBeGiven T (declarator_spelling (declarator_view d.now)) (made_by_declarator one) (used_by_declarator T Written one) (declarator_holds (declarator_view d.now)) (known types.old scope.old) count → IsType types.old (specified_type (typed_specifiers_view base.now)) → IsDeclaratorRead T naming (walks.outermost_of size) (specified_type (typed_specifiers_view base.now)) (declarator_view d.now) one (point_at (known types.old scope.old)) b → IsTaken typed_declarator_view one T (made_by_declarator one) (known types.old scope.old) b count result (known types.new scope.new) }
+    ensures numbered { IsKnown (known types.old scope.old) → IfOk result
+        (λ one. AreNumberedFrom (made_by_declarator (typed_declarator_view one))
+        (known types.old scope.old) (known types.new scope.new)) }
+    ensures limited { IfOk result (λ v. IsWithin (declarator_holds (declarator_view d.now))
+        (known types.old scope.old) (known types.new scope.new)) }
+    ensures refused { IsKnown (known types.old scope.old) → IsType types.old
+        (specified_type (typed_specifiers_view base.now)) → (p : At) (t : Broken) → result
+        ≡ Err (Refused p t) → IsRefused (λ T. DeclaratorFails T (walks.outermost_of size)
+        (specified_type (typed_specifiers_view base.now)) (declarator_view d.now) scope.old.scopes
+        (Refused p t)) (known types.old scope.old) (known types.new scope.new) }
+    ensures accepts { (T : Table) (one : typed_tree.TypedDeclarator) (b : Point) (count : ℕ)
+        → CanBeGiven T (declarator_spelling (declarator_view d.now)) (made_by_declarator one)
+        (used_by_declarator T Written one) (declarator_holds (declarator_view d.now))
+        (known types.old scope.old) count → IsType types.old
+        (specified_type (typed_specifiers_view base.now))
+        → IsDeclaratorRead T naming (walks.outermost_of size)
+        (specified_type (typed_specifiers_view base.now)) (declarator_view d.now) one
+        (point_at (known types.old scope.old)) b → IsTaken typed_declarator_view one T
+        (made_by_declarator one) (known types.old scope.old) b count result
+        (known types.new scope.new) }
 {
     declarator_behind(scope, types, naming, base, size, d)
 }
@@ -141,9 +229,14 @@ pub fn check_definition(
     d: &Declarator,
     naming: Naming,
 ) -> Result<(TypedDeclarator, Level), Fault>
-    ensures judged { Answers (λ made. typed_declarator_view made.0) (walks.judge_declarator naming (typed_specifiers_view base.now) None (declarator_view d.now) (known types.old scope.old)) result (known types.new scope.new) }
-    ensures home { IfOk result (λ made. made.0.home ≡ home_node (home_of (typed_declarator_view made.0))) }
-    ensures level { IfOk result (λ made. level_of naming (specified_type (typed_specifiers_view base.now)) (declarator_view d.now) (known types.old scope.old) ≡ made.1) }
+    ensures judged { Answers (λ made. typed_declarator_view made.0)
+        (walks.judge_declarator naming (typed_specifiers_view base.now) None (declarator_view d.now)
+        (known types.old scope.old)) result (known types.new scope.new) }
+    ensures home { IfOk result (λ made. made.0.home
+        ≡ home_node (home_of (typed_declarator_view made.0))) }
+    ensures level { IfOk result (λ made. level_of naming (specified_type
+        (typed_specifiers_view base.now)) (declarator_view d.now) (known types.old scope.old)
+        ≡ made.1) }
 {
     definition_behind(scope, types, naming, base, d)
 }

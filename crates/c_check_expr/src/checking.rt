@@ -48,7 +48,8 @@ pub(crate) const NOWHERE: Place = Place { line: 1, col: 1 };
 /// An expression whose value is taken.
 #[tactic(auto, unfolding(c_typing::specs::Walks::judge_value))]
 fn judged_value(scope: &mut Scope, types: &mut Types, e: &Expr) -> Result<Value, Fault>
-    ensures { Answers value_view (walks.judge_value (expr_view e.now) (known types.old scope.old)) result (known types.new scope.new) }
+    ensures { Answers value_view (walks.judge_value (expr_view e.now) (known types.old scope.old))
+        result (known types.new scope.new) }
 {
     let x = judge_expr(scope, types, LEVELS, false, e)?;
     value(scope, types, x)
@@ -57,7 +58,8 @@ fn judged_value(scope: &mut Scope, types: &mut Types, e: &Expr) -> Result<Value,
 /// The value of an expression; a struct is not read.
 #[tactic(auto, unfolding(c_typing::specs::Checking::checked))]
 pub(crate) fn checked(scope: &mut Scope, types: &mut Types, e: &Expr) -> Result<TypedExpr, Fault>
-    ensures { Answers typed_expr_view (checking.checked (expr_view e.now) (known types.old scope.old)) result (known types.new scope.new) }
+    ensures { Answers typed_expr_view (checking.checked (expr_view e.now)
+        (known types.old scope.old)) result (known types.new scope.new) }
 {
     let v = judged_value(scope, types, e)?;
     Ok(v.expr.into_inner())
@@ -72,7 +74,8 @@ fn taken(
     to: TypeId,
     x: Operand,
 ) -> Result<Part, Fault>
-    ensures { Answers part_view (checking.taken init to (operand_view x) (known types.old scope.old)) result (known types.new scope.new) }
+    ensures { Answers part_view (checking.taken init to (operand_view x)
+        (known types.old scope.old)) result (known types.new scope.new) }
 {
     if init {
         return given(scope, types, to, x.place, x.part);
@@ -102,7 +105,8 @@ fn converted_part(
     at: Place,
     x: Part,
 ) -> Result<Boxed<TypedExpr>, NoMemory>
-    ensures { IfOk result (λ e. typed_expr_view e ≡ checking.converted_part types.now to at (part_view x)) }
+    ensures { IfOk result (λ e. typed_expr_view e
+        ≡ checking.converted_part types.now to at (part_view x)) }
 {
     match x {
         Part::Place(p) => Ok(Boxed::new(scope.alloc(), TypedExpr::Unread(p))?),
@@ -121,7 +125,8 @@ pub(crate) fn checked_for(
     init: bool,
     e: &Expr,
 ) -> Result<TypedExpr, Fault>
-    ensures { Answers typed_expr_view (checking.checked_value to at init (expr_view e.now) (known types.old scope.old)) result (known types.new scope.new) }
+    ensures { Answers typed_expr_view (checking.checked_value to at init (expr_view e.now)
+        (known types.old scope.old)) result (known types.new scope.new) }
 {
     let x = judge_expr(scope, types, LEVELS, false, e)?;
     let part = taken(scope, types, init, to, x)?;
@@ -138,7 +143,8 @@ pub(crate) fn checked_constant(
     types: &mut Types,
     e: &Expr,
 ) -> Result<(TypedExpr, i128), Fault>
-    ensures { Answers constant_view (checking.checked_constant (expr_view e.now) (known types.old scope.old)) result (known types.new scope.new) }
+    ensures { Answers constant_view (checking.checked_constant (expr_view e.now)
+        (known types.old scope.old)) result (known types.new scope.new) }
 {
     let v = judged_value(scope, types, e)?;
     match constant_value(types, v.expr.get()) {
@@ -151,7 +157,9 @@ pub(crate) fn checked_constant(
 #[tactic(auto, using(c_tree::proofs::ViewLaws::expr_views))]
 fn tag_of(one: &Specifier) -> Option<(AggregateKind, Place, &Identifier)>
     ensures some { IfSome result (λ t. specifier_view one.now ≡ Tagged t.0 t.1 t.2.now) }
-    ensures none { result ≡ None → walks.judge_alone_list (AndSpecifier NoSpecifier (specifier_view one.now)) ≡ walks.judge_list (AndSpecifier NoSpecifier (specifier_view one.now)) }
+    ensures none { result ≡ None → walks.judge_alone_list (AndSpecifier NoSpecifier
+        (specifier_view one.now)) ≡ walks.judge_list
+        (AndSpecifier NoSpecifier (specifier_view one.now)) }
 {
     match one {
         Specifier::Tagged(which, at, name) => Some((*which, *at, name)),
@@ -166,8 +174,11 @@ fn tag_of(one: &Specifier) -> Option<(AggregateKind, Place, &Identifier)>
 /// The tag that specifiers declare which no declarator follows, if they are `struct S` or `union U` by itself.
 #[tactic(auto, using(c_tree::proofs::PushLaws::pushes))]
 fn tag_alone(list: &[Specifier]) -> Option<(AggregateKind, Place, &Identifier)>
-    ensures some { IfSome result (λ t. specifiers_of (map specifier_view list.now) ≡ AndSpecifier NoSpecifier (Tagged t.0 t.1 t.2.now)) }
-    ensures none { result ≡ None → walks.judge_alone_list (specifiers_of (map specifier_view list.now)) ≡ walks.judge_list (specifiers_of (map specifier_view list.now)) }
+    ensures some { IfSome result (λ t. specifiers_of (map specifier_view list.now)
+        ≡ AndSpecifier NoSpecifier (Tagged t.0 t.1 t.2.now)) }
+    ensures none { result ≡ None → walks.judge_alone_list (specifiers_of
+        (map specifier_view list.now)) ≡ walks.judge_list
+        (specifiers_of (map specifier_view list.now)) }
 {
     let (last, before) = list.split_last()?;
     if before.split_last().is_some() {
@@ -183,7 +194,9 @@ fn alone_specifiers(
     types: &mut Types,
     specifiers: &Specifiers,
 ) -> Result<TypedSpecifiers, Fault>
-    ensures { Answers typed_specifiers_view (walks.judge_specifiers_of true (specifiers_view specifiers.now) (known types.old scope.old)) result (known types.new scope.new) }
+    ensures { Answers typed_specifiers_view (walks.judge_specifiers_of true
+        (specifiers_view specifiers.now) (known types.old scope.old)) result
+        (known types.new scope.new) }
 {
     let Some((which, at, name)) = tag_alone(specifiers.list.as_slice()) else {
         return judge_specifiers(scope, types, LEVELS, specifiers);
@@ -202,7 +215,9 @@ pub(crate) fn specifiers_by(
     specifiers: &Specifiers,
     alone: bool,
 ) -> Result<TypedSpecifiers, Fault>
-    ensures { Answers typed_specifiers_view (walks.judge_specifiers_of alone (specifiers_view specifiers.now) (known types.old scope.old)) result (known types.new scope.new) }
+    ensures { Answers typed_specifiers_view (walks.judge_specifiers_of alone
+        (specifiers_view specifiers.now) (known types.old scope.old)) result
+        (known types.new scope.new) }
 {
     if alone {
         alone_specifiers(scope, types, specifiers)
@@ -213,7 +228,9 @@ pub(crate) fn specifiers_by(
 
 /// What the name of a declarator is to be, unless it is a function.
 pub(crate) fn naming_of(types: &Types, naming: Naming, base: TypeId, d: &Declarator) -> Naming
-    ensures { result ≡ declaring.unless_function (declaring.is_function_by (declaring.derived_by (declarator_view d.now) declaring.NotDerived) (table.shape_at types.now base)) naming }
+    ensures { result ≡ declaring.unless_function (declaring.is_function_by
+        (declaring.derived_by (declarator_view d.now) declaring.NotDerived)
+        (table.shape_at types.now base)) naming }
 {
     if is_function_by(types, derived_by(d, Derived::Nothing), base) {
         Naming::None
@@ -241,7 +258,10 @@ pub(crate) fn with_type(
     form: TypedForm,
     base: TypeId,
 ) -> Result<TypedDeclarator, Fault>
-    ensures made { Answers typed_declarator_view (judging.next (declaring.form_makes at (walks.outermost_of size) (typed_form_view form) base (known types.old scope.old)) (λ t. judging.pure (typed.Declares (typed_form_view form) t))) result (known types.new scope.new) }
+    ensures made { Answers typed_declarator_view (judging.next
+        (declaring.form_makes at (walks.outermost_of size) (typed_form_view form) base
+        (known types.old scope.old)) (λ t. judging.pure (typed.Declares (typed_form_view form) t)))
+        result (known types.new scope.new) }
     ensures home { IfOk result (λ one. one.home ≡ home_node (home_of (typed_declarator_view one))) }
 {
     let ty = form_makes(scope, types, at, nearest_of(size), &form, base)?;
@@ -259,7 +279,9 @@ pub(crate) fn declarator_behind(
     size: Option<u64>,
     d: &Declarator,
 ) -> Result<TypedDeclarator, Fault>
-    ensures judged { Answers typed_declarator_view (walks.judge_declarator naming (typed_specifiers_view base.now) size (declarator_view d.now) (known types.old scope.old)) result (known types.new scope.new) }
+    ensures judged { Answers typed_declarator_view (walks.judge_declarator naming
+        (typed_specifiers_view base.now) size (declarator_view d.now) (known types.old scope.old))
+        result (known types.new scope.new) }
     ensures home { IfOk result (λ one. one.home ≡ home_node (home_of (typed_declarator_view one))) }
 {
     let at = name_place(declarator_name(d), NOWHERE);

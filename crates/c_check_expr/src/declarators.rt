@@ -33,7 +33,8 @@ use cc_base::{Fault, NodeId, Place, Rule};
 /// A new node for what is named at the place.
 #[tactic(auto, unfolding(c_typing::specs::Judging::new_node))]
 pub(crate) fn node_at(scope: &mut Scope, at: Place) -> Result<NodeId, Fault>
-    ensures answers { (table : Table) → Answers (λ n. n) (new_node at (known table scope.old)) result (known table scope.new) }
+    ensures answers { (table : Table) → Answers (λ n. n)
+        (new_node at (known table scope.old)) result (known table scope.new) }
     ensures same { scope.new.scopes ≡ scope.old.scopes }
 {
     match scope.new_node() {
@@ -45,7 +46,8 @@ pub(crate) fn node_at(scope: &mut Scope, at: Place) -> Result<NodeId, Fault>
 /// The home of a name, whose node is made where the name stands.
 #[tactic(auto, unfolding(c_typing::specs::Declaring::home_as))]
 pub(crate) fn home_as(scope: &mut Scope, at: Place, which: Naming) -> Result<Home, Fault>
-    ensures { (table : Table) → Answers (λ home. home) (declaring.home_as at which (known table scope.old)) result (known table scope.new) }
+    ensures { (table : Table) → Answers (λ home. home) (declaring.home_as at which
+        (known table scope.old)) result (known table scope.new) }
 {
     match which {
         Naming::None => Ok(Home::None),
@@ -58,7 +60,8 @@ pub(crate) fn home_as(scope: &mut Scope, at: Place, which: Naming) -> Result<Hom
 
 /// A star with a node of its own.
 fn star_with_node(scope: &mut Scope, at: Place, star: &Star) -> Result<TypedStar, Fault>
-    ensures ok { (table : Table) → Answers (λ s. s.node) (new_node at (known table scope.old)) result (known table scope.new) }
+    ensures ok { (table : Table) → Answers (λ s. s.node)
+        (new_node at (known table scope.old)) result (known table scope.new) }
     ensures same { IfOk result (λ s. s.star ≡ star.now) }
 {
     let node = node_at(scope, at)?;
@@ -72,7 +75,8 @@ pub(crate) fn stars_with_nodes(
     at: Place,
     stars: &[Star],
 ) -> Result<Items<TypedStar>, Fault>
-    ensures { (table : Table) → Answers (λ found. found) (declaring.stars_with_nodes at stars.now (known table scope.old)) result (known table scope.new) }
+    ensures { (table : Table) → Answers (λ found. found) (declaring.stars_with_nodes at stars.now
+        (known table scope.old)) result (known table scope.new) }
 {
     let mut found = Items::new(scope.alloc());
     for star in stars {
@@ -93,7 +97,8 @@ fn is_size(size: Option<i128>) -> bool
 
 /// The rules of an array part's size: it is constant, and above 0.
 fn size_fault(types: &Types, v: &Value) -> Option<Fault>
-    ensures { result ≡ first_broken (tests.array_size_tests types.now v.now.place (AsValue (value_view v.now).expr)) }
+    ensures { result ≡ first_broken (tests.array_size_tests types.now v.now.place
+        (AsValue (value_view v.now).expr)) }
 {
     if is_size(constant_value(types, v.expr.get())) {
         None
@@ -115,7 +120,10 @@ fn size_given(size: Option<i128>) -> Option<u64>
 /// The size of an array part.
 #[tactic(auto, unfolding(c_typing::specs::Declaring::sized, c_typing::specs::Declaring::sized_part))]
 fn size_of_array(types: &Types, v: &Value) -> Result<u64, Fault>
-    ensures { (seen : Seen) (all : TypedParts) (at : Place) (words : List Word) → Answers (AndSizedArray all at words (value_view v.now).expr) (declaring.sized all at words (value_view v.now) (known types.now seen)) result (known types.now seen) }
+    ensures { (seen : Seen) (all : TypedParts) (at : Place) (words : List Word)
+        → Answers (AndSizedArray all at words (value_view v.now).expr)
+        (declaring.sized all at words (value_view v.now) (known types.now seen)) result
+        (known types.now seen) }
 {
     if let Some(fault) = size_fault(types, v) {
         return Err(fault);
@@ -135,7 +143,9 @@ fn sized(
     words: &[Word],
     v: Value,
 ) -> Result<TypedPart, Fault>
-    ensures { (all : TypedParts) → Answers (λ part. typed_part_view part all) (declaring.sized all at words.now (value_view v) (known types.now scope.now)) result (known types.now scope.now) }
+    ensures { (all : TypedParts) → Answers (λ part. typed_part_view part all)
+        (declaring.sized all at words.now (value_view v) (known types.now scope.now)) result
+        (known types.now scope.now) }
 {
     let size = size_of_array(types, &v)?;
     let words = copied_words(scope.alloc(), words)?;
@@ -157,8 +167,16 @@ impl<
         paren: Place,
         parameters: &[Parameter],
     ) -> Result<TypedPart, Fault>
-        requires nests { Nests self.now.depth (E.pre self.now.judge_expr) (E.post self.now.judge_expr) (S.pre self.now.judge_specifiers) (S.post self.now.judge_specifiers) (D.pre self.now.judge_form) (D.post self.now.judge_form) }
-        ensures { (start : State) (before : Parts) (done : TypedParts) → walks.judge_parts at before start ≡ Gives done (known types.old scope.old) → Answers (λ made. typed_part_view made done) (walks.judge_parts at (AndFunction before paren (added NoParameter (map parameter_view parameters.now))) start) result (known types.new scope.new) }
+        requires nests { Nests self.now.depth (E.pre self.now.judge_expr)
+            (E.post self.now.judge_expr) (S.pre self.now.judge_specifiers)
+            (S.post self.now.judge_specifiers) (D.pre self.now.judge_form)
+            (D.post self.now.judge_form) }
+        ensures { (start : State) (before : Parts) (done : TypedParts)
+            → walks.judge_parts at before start ≡ Gives done (known types.old scope.old)
+            → Answers (λ made. typed_part_view made done)
+            (walks.judge_parts at (AndFunction before paren
+            (added NoParameter (map parameter_view parameters.now))) start) result
+            (known types.new scope.new) }
     {
         let (list, _) = self.prototype_left(scope, types, at, parameters)?;
         Ok(TypedPart::Function(paren, list))
@@ -173,8 +191,15 @@ impl<
         at: Place,
         part: &Part,
     ) -> Result<TypedPart, Fault>
-        requires nests { Nests self.now.depth (E.pre self.now.judge_expr) (E.post self.now.judge_expr) (S.pre self.now.judge_specifiers) (S.post self.now.judge_specifiers) (D.pre self.now.judge_form) (D.post self.now.judge_form) }
-        ensures { (start : State) (before : Parts) (done : TypedParts) → walks.judge_parts at before start ≡ Gives done (known types.old scope.old) → Answers (λ made. typed_part_view made done) (walks.judge_parts at (part_view part.now before) start) result (known types.new scope.new) }
+        requires nests { Nests self.now.depth (E.pre self.now.judge_expr)
+            (E.post self.now.judge_expr) (S.pre self.now.judge_specifiers)
+            (S.post self.now.judge_specifiers) (D.pre self.now.judge_form)
+            (D.post self.now.judge_form) }
+        ensures { (start : State) (before : Parts) (done : TypedParts)
+            → walks.judge_parts at before start ≡ Gives done (known types.old scope.old)
+            → Answers (λ made. typed_part_view made done)
+            (walks.judge_parts at (part_view part.now before) start) result
+            (known types.new scope.new) }
     {
         match part {
             Part::Array(bracket, words, None) => {
@@ -201,8 +226,15 @@ impl<
         first: Items<TypedPart>,
         rest: &[Part],
     ) -> Result<Items<TypedPart>, Fault>
-        requires nests { Nests self.now.depth (E.pre self.now.judge_expr) (E.post self.now.judge_expr) (S.pre self.now.judge_specifiers) (S.post self.now.judge_specifiers) (D.pre self.now.judge_form) (D.post self.now.judge_form) }
-        ensures { (start : State) (before : Parts) → walks.judge_parts at before start ≡ Gives (added no_typed_part (map typed_part_view first)) (known types.old scope.old) → Answers (λ found. added no_typed_part (map typed_part_view found)) (walks.judge_parts at (added before (map part_view rest.now)) start) result (known types.new scope.new) }
+        requires nests { Nests self.now.depth (E.pre self.now.judge_expr)
+            (E.post self.now.judge_expr) (S.pre self.now.judge_specifiers)
+            (S.post self.now.judge_specifiers) (D.pre self.now.judge_form)
+            (D.post self.now.judge_form) }
+        ensures { (start : State) (before : Parts) → walks.judge_parts at before start
+            ≡ Gives (added no_typed_part (map typed_part_view first)) (known types.old scope.old)
+            → Answers (λ found. added no_typed_part (map typed_part_view found))
+            (walks.judge_parts at (added before (map part_view rest.now)) start) result
+            (known types.new scope.new) }
     {
         let mut found = first;
         for part in rest {
@@ -220,8 +252,13 @@ impl<
         at: Place,
         parts: &[Part],
     ) -> Result<Items<TypedPart>, Fault>
-        requires nests { Nests self.now.depth (E.pre self.now.judge_expr) (E.post self.now.judge_expr) (S.pre self.now.judge_specifiers) (S.post self.now.judge_specifiers) (D.pre self.now.judge_form) (D.post self.now.judge_form) }
-        ensures { Answers (λ found. added no_typed_part (map typed_part_view found)) (walks.judge_parts at (added NoPart (map part_view parts.now)) (known types.old scope.old)) result (known types.new scope.new) }
+        requires nests { Nests self.now.depth (E.pre self.now.judge_expr)
+            (E.post self.now.judge_expr) (S.pre self.now.judge_specifiers)
+            (S.post self.now.judge_specifiers) (D.pre self.now.judge_form)
+            (D.post self.now.judge_form) }
+        ensures { Answers (λ found. added no_typed_part (map typed_part_view found))
+            (walks.judge_parts at (added NoPart (map part_view parts.now))
+            (known types.old scope.old)) result (known types.new scope.new) }
     {
         self.parts_behind(scope, types, at, Items::new(scope.alloc()), parts)
     }
@@ -236,8 +273,12 @@ impl<
         at: Place,
         core: &Core,
     ) -> Result<TypedCore, Fault>
-        requires nests { Nests self.now.depth (E.pre self.now.judge_expr) (E.post self.now.judge_expr) (S.pre self.now.judge_specifiers) (S.post self.now.judge_specifiers) (D.pre self.now.judge_form) (D.post self.now.judge_form) }
-        ensures { Answers typed_core_view (walks.judge_core which at (core_view core.now) (known types.old scope.old)) result (known types.new scope.new) }
+        requires nests { Nests self.now.depth (E.pre self.now.judge_expr)
+            (E.post self.now.judge_expr) (S.pre self.now.judge_specifiers)
+            (S.post self.now.judge_specifiers) (D.pre self.now.judge_form)
+            (D.post self.now.judge_form) }
+        ensures { Answers typed_core_view (walks.judge_core which at (core_view core.now)
+            (known types.old scope.old)) result (known types.new scope.new) }
     {
         match core {
             Core::Names(name) => {
@@ -262,8 +303,12 @@ impl<
         at: Place,
         d: &Declarator,
     ) -> Result<TypedForm, Fault>
-        requires nests { Nests self.now.depth (E.pre self.now.judge_expr) (E.post self.now.judge_expr) (S.pre self.now.judge_specifiers) (S.post self.now.judge_specifiers) (D.pre self.now.judge_form) (D.post self.now.judge_form) }
-        ensures { Answers typed_form_view (walks.judge_form which at (declarator_view d.now) (known types.old scope.old)) result (known types.new scope.new) }
+        requires nests { Nests self.now.depth (E.pre self.now.judge_expr)
+            (E.post self.now.judge_expr) (S.pre self.now.judge_specifiers)
+            (S.post self.now.judge_specifiers) (D.pre self.now.judge_form)
+            (D.post self.now.judge_form) }
+        ensures { Answers typed_form_view (walks.judge_form which at (declarator_view d.now)
+            (known types.old scope.old)) result (known types.new scope.new) }
     {
         let stars = stars_with_nodes(scope, at, d.stars.as_slice())?;
         let core = self.core(scope, types, which, at, &d.core)?;

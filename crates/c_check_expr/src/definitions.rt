@@ -71,9 +71,18 @@ impl<
         paren: Place,
         parameters: &[Parameter],
     ) -> Result<(TypedPart, Level), Fault>
-        requires nests { Nests self.now.depth (E.pre self.now.judge_expr) (E.post self.now.judge_expr) (S.pre self.now.judge_specifiers) (S.post self.now.judge_specifiers) (D.pre self.now.judge_form) (D.post self.now.judge_form) }
-        ensures judged { Answers (λ made. typed_part_view made.0 no_typed_part) (walks.judge_parts at (AndFunction NoPart paren (added NoParameter (map parameter_view parameters.now))) (known types.old scope.old)) result (known types.new scope.new) }
-        ensures left { IfOk result (λ made. (outer : Option Parameters) → level_given (scope_of_list (parameters_written (AndFunction NoPart paren (added NoParameter (map parameter_view parameters.now))) outer) (known types.old scope.old)) ≡ made.1) }
+        requires nests { Nests self.now.depth (E.pre self.now.judge_expr)
+            (E.post self.now.judge_expr) (S.pre self.now.judge_specifiers)
+            (S.post self.now.judge_specifiers) (D.pre self.now.judge_form)
+            (D.post self.now.judge_form) }
+        ensures judged { Answers (λ made. typed_part_view made.0 no_typed_part)
+            (walks.judge_parts at (AndFunction NoPart paren
+            (added NoParameter (map parameter_view parameters.now))) (known types.old scope.old))
+            result (known types.new scope.new) }
+        ensures left { IfOk result (λ made. (outer : Option Parameters)
+            → level_given (scope_of_list (parameters_written
+            (AndFunction NoPart paren (added NoParameter (map parameter_view parameters.now)))
+            outer) (known types.old scope.old)) ≡ made.1) }
     {
         let (list, level) = self.prototype_left(scope, types, at, parameters)?;
         Ok((TypedPart::Function(paren, list), level))
@@ -88,9 +97,16 @@ impl<
         at: Place,
         part: &Part,
     ) -> Result<(TypedPart, Level), Fault>
-        requires nests { Nests self.now.depth (E.pre self.now.judge_expr) (E.post self.now.judge_expr) (S.pre self.now.judge_specifiers) (S.post self.now.judge_specifiers) (D.pre self.now.judge_form) (D.post self.now.judge_form) }
-        ensures judged { Answers (λ made. typed_part_view made.0 no_typed_part) (walks.judge_parts at (part_view part.now NoPart) (known types.old scope.old)) result (known types.new scope.new) }
-        ensures left { IfOk result (λ made. (outer : Option Parameters) → level_given (scope_of_list (parameters_written (part_view part.now NoPart) outer) (known types.old scope.old)) ≡ made.1) }
+        requires nests { Nests self.now.depth (E.pre self.now.judge_expr)
+            (E.post self.now.judge_expr) (S.pre self.now.judge_specifiers)
+            (S.post self.now.judge_specifiers) (D.pre self.now.judge_form)
+            (D.post self.now.judge_form) }
+        ensures judged { Answers (λ made. typed_part_view made.0 no_typed_part)
+            (walks.judge_parts at (part_view part.now NoPart) (known types.old scope.old)) result
+            (known types.new scope.new) }
+        ensures left { IfOk result (λ made. (outer : Option Parameters)
+            → level_given (scope_of_list (parameters_written (part_view part.now NoPart) outer)
+            (known types.old scope.old)) ≡ made.1) }
     {
         match part {
             Part::Function(paren, parameters) => {
@@ -112,9 +128,15 @@ impl<
         at: Place,
         parts: &[Part],
     ) -> Result<(Items<TypedPart>, Level), Fault>
-        requires nests { Nests self.now.depth (E.pre self.now.judge_expr) (E.post self.now.judge_expr) (S.pre self.now.judge_specifiers) (S.post self.now.judge_specifiers) (D.pre self.now.judge_form) (D.post self.now.judge_form) }
-        ensures judged { Answers (λ made. added no_typed_part (map typed_part_view made.0)) (walks.judge_parts at (added NoPart (map part_view parts.now)) (known types.old scope.old)) result (known types.new scope.new) }
-        ensures left { IfOk result (λ made. AreLeaving parts.now made.1 (known types.old scope.old)) }
+        requires nests { Nests self.now.depth (E.pre self.now.judge_expr)
+            (E.post self.now.judge_expr) (S.pre self.now.judge_specifiers)
+            (S.post self.now.judge_specifiers) (D.pre self.now.judge_form)
+            (D.post self.now.judge_form) }
+        ensures judged { Answers (λ made. added no_typed_part (map typed_part_view made.0))
+            (walks.judge_parts at (added NoPart (map part_view parts.now))
+            (known types.old scope.old)) result (known types.new scope.new) }
+        ensures left { IfOk result (λ made. AreLeaving parts.now made.1
+            (known types.old scope.old)) }
     {
         let Some((first, rest)) = parts.split_first() else {
             return Ok((Items::new(scope.alloc()), Level::new(scope.alloc())));
@@ -138,8 +160,11 @@ fn core_left(
     at: Place,
     core: &Core,
 ) -> Result<Left<TypedCore>, Fault>
-    ensures judged { Answers (λ left. typed_core_view left.one) (walks.judge_core which at (core_view core.now) (known types.old scope.old)) result (known types.new scope.new) }
-    ensures tells { IfOk result (λ left. Tells (scope_of_core which at (core_view core.now)) left.bare left.level (known types.old scope.old) (known types.new scope.new)) }
+    ensures judged { Answers (λ left. typed_core_view left.one)
+        (walks.judge_core which at (core_view core.now) (known types.old scope.old)) result
+        (known types.new scope.new) }
+    ensures tells { IfOk result (λ left. Tells (scope_of_core which at (core_view core.now))
+        left.bare left.level (known types.old scope.old) (known types.new scope.new)) }
 {
     match core {
         Core::Names(name) => {
@@ -177,8 +202,12 @@ fn judge_definition(
     at: Place,
     d: &Declarator,
 ) -> Result<Left<TypedForm>, Fault>
-    ensures judged { Answers (λ left. typed_form_view left.one) (walks.judge_form which at (declarator_view d.now) (known types.old scope.old)) result (known types.new scope.new) }
-    ensures tells { IfOk result (λ left. Tells (scope_of_declarator which at (declarator_view d.now)) left.bare left.level (known types.old scope.old) (known types.new scope.new)) }
+    ensures judged { Answers (λ left. typed_form_view left.one)
+        (walks.judge_form which at (declarator_view d.now) (known types.old scope.old)) result
+        (known types.new scope.new) }
+    ensures tells { IfOk result (λ left. Tells (scope_of_declarator which at
+        (declarator_view d.now)) left.bare left.level (known types.old scope.old)
+        (known types.new scope.new)) }
 {
     if depth == 0 {
         return Err(Fault::NoMemory);
@@ -212,9 +241,14 @@ pub(crate) fn definition_behind(
     base: &TypedSpecifiers,
     d: &Declarator,
 ) -> Result<(TypedDeclarator, Level), Fault>
-    ensures home { IfOk result (λ made. made.0.home ≡ home_node (home_of (typed_declarator_view made.0))) }
-    ensures judged { Answers (λ made. typed_declarator_view made.0) (walks.judge_declarator naming (typed_specifiers_view base.now) None (declarator_view d.now) (known types.old scope.old)) result (known types.new scope.new) }
-    ensures level { IfOk result (λ made. level_of naming (specified_type (typed_specifiers_view base.now)) (declarator_view d.now) (known types.old scope.old) ≡ made.1) }
+    ensures home { IfOk result (λ made. made.0.home
+        ≡ home_node (home_of (typed_declarator_view made.0))) }
+    ensures judged { Answers (λ made. typed_declarator_view made.0)
+        (walks.judge_declarator naming (typed_specifiers_view base.now) None (declarator_view d.now)
+        (known types.old scope.old)) result (known types.new scope.new) }
+    ensures level { IfOk result (λ made. level_of naming (specified_type
+        (typed_specifiers_view base.now)) (declarator_view d.now) (known types.old scope.old)
+        ≡ made.1) }
 {
     let at = name_place(declarator_name(d), NOWHERE);
     let which = naming_of(types, naming, base.ty, d);

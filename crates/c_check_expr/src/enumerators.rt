@@ -63,7 +63,8 @@ fn is_reserved(scope: &Scope, name: &Identifier) -> bool
 
 /// Whether no enumerator of the name can be declared in the innermost scope.
 fn is_taken(scope: &Scope, name: &Identifier) -> bool
-    ensures { result ≡ (tests.has_some (here scope.now.scopes.levels name.now.bytes) || tests.is_reserved scope.now.scopes name.now.bytes) }
+    ensures { result ≡ (tests.has_some (here scope.now.scopes.levels name.now.bytes) ||
+        tests.is_reserved scope.now.scopes name.now.bytes) }
 {
     scope.here(name.bytes.as_slice()).is_some() || is_reserved(scope, name)
 }
@@ -75,8 +76,12 @@ fn plain(
     last: Option<i128>,
     name: &Identifier,
 ) -> Result<(TypedEnumerator, i128), Fault>
-    ensures answers { (all : TypedEnumerators) (table : Table) → last_value all ≡ last → Answers (λ r. typed_enumerator_view r.0 all) (specifying.enumerator all name.now (known table scope.old)) result (known table scope.new) }
-    ensures value { IfOk result (λ r. (all : TypedEnumerators) → last_value (typed_enumerator_view r.0 all) ≡ Some r.1) }
+    ensures answers { (all : TypedEnumerators) (table : Table) → last_value all ≡ last
+        → Answers (λ r. typed_enumerator_view r.0 all)
+        (specifying.enumerator all name.now (known table scope.old)) result
+        (known table scope.new) }
+    ensures value { IfOk result (λ r. (all : TypedEnumerators)
+        → last_value (typed_enumerator_view r.0 all) ≡ Some r.1) }
 {
     if is_taken(scope, name) {
         return Err(refusal(name.place, Rule::Redeclared));
@@ -89,7 +94,9 @@ fn plain(
 
 /// The rules of an enumerator whose value is judged.
 fn value_fault(scope: &Scope, types: &Types, name: &Identifier, v: &Value) -> Option<Fault>
-    ensures { result ≡ first_broken (tests.enumerator_tests scope.now.scopes name.now.bytes name.now.place ++ tests.constant_tests types.now v.now.place (AsValue (value_view v.now).expr)) }
+    ensures { result ≡ first_broken (tests.enumerator_tests scope.now.scopes name.now.bytes
+        name.now.place ++ tests.constant_tests types.now v.now.place
+        (AsValue (value_view v.now).expr)) }
 {
     if is_taken(scope, name) {
         return Some(refusal(name.place, Rule::Redeclared));
@@ -104,8 +111,14 @@ fn value_fault(scope: &Scope, types: &Types, name: &Identifier, v: &Value) -> Op
 #[tactic(auto, unfolding(c_typing::specs::Specifying::valued_enumerator, c_typing::specs::Specifying::enumerator_with))]
 fn constant_of(scope: &Scope, types: &Types, name: &Identifier, v: &Value) -> Result<i128, Fault>
     ensures fresh { IfOk result (λ z. here scope.now.scopes.levels name.now.bytes ≡ None) }
-    ensures ok { IfOk result (λ z. (all : TypedEnumerators) (at : Place) → specifying.valued_enumerator all name.now at (value_view v.now) (known types.now scope.now) ≡ Gives (AndValued all name.now at (value_view v.now).expr (converted int z)) (known types.now (with_scopes scope.now (declaring name.now.bytes (declared.Enumerator (converted int z)) scope.now.scopes)))) }
-    ensures err { IfErr result (λ fault. fault ≢ no_memory → (all : TypedEnumerators) (at : Place) → specifying.valued_enumerator all name.now at (value_view v.now) (known types.now scope.now) ≡ Stops fault (known types.now scope.now)) }
+    ensures ok { IfOk result (λ z. (all : TypedEnumerators) (at : Place)
+        → specifying.valued_enumerator all name.now at (value_view v.now)
+        (known types.now scope.now) ≡ Gives (AndValued all name.now at (value_view v.now).expr
+        (converted int z)) (known types.now (with_scopes scope.now
+        (declaring name.now.bytes (declared.Enumerator (converted int z)) scope.now.scopes)))) }
+    ensures err { IfErr result (λ fault. fault ≢ no_memory → (all : TypedEnumerators) (at : Place)
+        → specifying.valued_enumerator all name.now at (value_view v.now)
+        (known types.now scope.now) ≡ Stops fault (known types.now scope.now)) }
 {
     if let Some(fault) = value_fault(scope, types, name, v) {
         return Err(fault);
@@ -123,7 +136,9 @@ fn declared_constant(
     z: i128,
 ) -> Result<(Identifier, i128), NoMemory>
     requires { here scope.old.scopes.levels name.now.bytes ≡ None }
-    ensures { IfOk result (λ r. (r.0 ≡ name.now) × (r.1 ≡ converted int z) × (scope.new ≡ with_scopes scope.old (declaring name.now.bytes (declared.Enumerator (converted int z)) scope.old.scopes))) }
+    ensures { IfOk result (λ r. (r.0 ≡ name.now) × (r.1 ≡ converted int z)
+        × (scope.new ≡ with_scopes scope.old (declaring name.now.bytes
+        (declared.Enumerator (converted int z)) scope.old.scopes))) }
 {
     let value = converted(INT, z);
     scope.declare(name.bytes.as_slice(), Declared::Enumerator(value))?;
@@ -139,8 +154,11 @@ fn valued(
     at: Place,
     v: Value,
 ) -> Result<(TypedEnumerator, i128), Fault>
-    ensures answers { (all : TypedEnumerators) → Answers (λ r. typed_enumerator_view r.0 all) (specifying.valued_enumerator all name.now at (value_view v) (known types.now scope.old)) result (known types.now scope.new) }
-    ensures value { IfOk result (λ r. (all : TypedEnumerators) → last_value (typed_enumerator_view r.0 all) ≡ Some r.1) }
+    ensures answers { (all : TypedEnumerators) → Answers (λ r. typed_enumerator_view r.0 all)
+        (specifying.valued_enumerator all name.now at (value_view v) (known types.now scope.old))
+        result (known types.now scope.new) }
+    ensures value { IfOk result (λ r. (all : TypedEnumerators)
+        → last_value (typed_enumerator_view r.0 all) ≡ Some r.1) }
 {
     let z = constant_of(scope, types, name, &v)?;
     let (name, value) = declared_constant(scope, name, z)?;
@@ -164,9 +182,17 @@ impl<
         last: Option<i128>,
         e: &Enumerator,
     ) -> Result<(TypedEnumerator, i128), Fault>
-        requires nests { Nests self.now.depth (E.pre self.now.judge_expr) (E.post self.now.judge_expr) (S.pre self.now.judge_specifiers) (S.post self.now.judge_specifiers) (D.pre self.now.judge_form) (D.post self.now.judge_form) }
-        ensures answers { (start : State) (before : Enumerators) (done : TypedEnumerators) → last_value done ≡ last → walks.judge_enumerators before start ≡ Gives done (known types.old scope.old) → Answers (λ r. typed_enumerator_view r.0 done) (walks.judge_enumerators (enumerator_view e.now before) start) result (known types.new scope.new) }
-        ensures value { IfOk result (λ r. (done : TypedEnumerators) → last_value (typed_enumerator_view r.0 done) ≡ Some r.1) }
+        requires nests { Nests self.now.depth (E.pre self.now.judge_expr)
+            (E.post self.now.judge_expr) (S.pre self.now.judge_specifiers)
+            (S.post self.now.judge_specifiers) (D.pre self.now.judge_form)
+            (D.post self.now.judge_form) }
+        ensures answers { (start : State) (before : Enumerators) (done : TypedEnumerators)
+            → last_value done ≡ last → walks.judge_enumerators before start
+            ≡ Gives done (known types.old scope.old) → Answers (λ r. typed_enumerator_view r.0 done)
+            (walks.judge_enumerators (enumerator_view e.now before) start) result
+            (known types.new scope.new) }
+        ensures value { IfOk result (λ r. (done : TypedEnumerators)
+            → last_value (typed_enumerator_view r.0 done) ≡ Some r.1) }
     {
         match e {
             Enumerator::Plain(name) => plain(scope, last, name),
@@ -185,8 +211,13 @@ impl<
         types: &mut Types,
         list: &[Enumerator],
     ) -> Result<Items<TypedEnumerator>, Fault>
-        requires nests { Nests self.now.depth (E.pre self.now.judge_expr) (E.post self.now.judge_expr) (S.pre self.now.judge_specifiers) (S.post self.now.judge_specifiers) (D.pre self.now.judge_form) (D.post self.now.judge_form) }
-        ensures { Answers (λ r. added none_typed (map typed_enumerator_view r)) (walks.judge_enumerators (added NoEnumerator (map enumerator_view list.now)) (known types.old scope.old)) result (known types.new scope.new) }
+        requires nests { Nests self.now.depth (E.pre self.now.judge_expr)
+            (E.post self.now.judge_expr) (S.pre self.now.judge_specifiers)
+            (S.post self.now.judge_specifiers) (D.pre self.now.judge_form)
+            (D.post self.now.judge_form) }
+        ensures { Answers (λ r. added none_typed (map typed_enumerator_view r))
+            (walks.judge_enumerators (added NoEnumerator (map enumerator_view list.now))
+            (known types.old scope.old)) result (known types.new scope.new) }
     {
         let mut found = Items::new(scope.alloc());
         let mut last = None;

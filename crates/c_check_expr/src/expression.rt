@@ -49,8 +49,12 @@ impl<
         at: Place,
         b: &Expr,
     ) -> Result<Operand, Fault>
-        requires nests { Nests self.now.depth (E.pre self.now.judge_expr) (E.post self.now.judge_expr) (S.pre self.now.judge_specifiers) (S.post self.now.judge_specifiers) (D.pre self.now.judge_form) (D.post self.now.judge_form) }
-        ensures { Answers operand_view (walks.judge called (tree.Index (expr_view a.now) at (expr_view b.now)) (known types.old scope.old)) result (known types.new scope.new) }
+        requires nests { Nests self.now.depth (E.pre self.now.judge_expr)
+            (E.post self.now.judge_expr) (S.pre self.now.judge_specifiers)
+            (S.post self.now.judge_specifiers) (D.pre self.now.judge_form)
+            (D.post self.now.judge_form) }
+        ensures { Answers operand_view (walks.judge called (tree.Index (expr_view a.now) at
+            (expr_view b.now)) (known types.old scope.old)) result (known types.new scope.new) }
     {
         let x = self.value(scope, types, a)?;
         let y = self.value(scope, types, b)?;
@@ -69,8 +73,12 @@ impl<
         at: Place,
         b: &Expr,
     ) -> Result<Operand, Fault>
-        requires nests { Nests self.now.depth (E.pre self.now.judge_expr) (E.post self.now.judge_expr) (S.pre self.now.judge_specifiers) (S.post self.now.judge_specifiers) (D.pre self.now.judge_form) (D.post self.now.judge_form) }
-        ensures { Answers operand_view (walks.judge called (tree.Infix operator (expr_view a.now) at (expr_view b.now)) (known types.old scope.old)) result (known types.new scope.new) }
+        requires nests { Nests self.now.depth (E.pre self.now.judge_expr)
+            (E.post self.now.judge_expr) (S.pre self.now.judge_specifiers)
+            (S.post self.now.judge_specifiers) (D.pre self.now.judge_form)
+            (D.post self.now.judge_form) }
+        ensures { Answers operand_view (walks.judge called (tree.Infix operator (expr_view a.now) at
+            (expr_view b.now)) (known types.old scope.old)) result (known types.new scope.new) }
     {
         let x = self.value(scope, types, a)?;
         let y = self.value(scope, types, b)?;
@@ -87,8 +95,12 @@ impl<
         a: &Expr,
         b: &Expr,
     ) -> Result<Operand, Fault>
-        requires nests { Nests self.now.depth (E.pre self.now.judge_expr) (E.post self.now.judge_expr) (S.pre self.now.judge_specifiers) (S.post self.now.judge_specifiers) (D.pre self.now.judge_form) (D.post self.now.judge_form) }
-        ensures { Answers operand_view (walks.judge called (tree.Comma (expr_view a.now) (expr_view b.now)) (known types.old scope.old)) result (known types.new scope.new) }
+        requires nests { Nests self.now.depth (E.pre self.now.judge_expr)
+            (E.post self.now.judge_expr) (S.pre self.now.judge_specifiers)
+            (S.post self.now.judge_specifiers) (D.pre self.now.judge_form)
+            (D.post self.now.judge_form) }
+        ensures { Answers operand_view (walks.judge called (tree.Comma (expr_view a.now)
+            (expr_view b.now)) (known types.old scope.old)) result (known types.new scope.new) }
     {
         let x = self.value(scope, types, a)?;
         let y = self.value(scope, types, b)?;
@@ -106,8 +118,12 @@ impl<
         at: Place,
         e: &Expr,
     ) -> Result<Operand, Fault>
-        requires nests { Nests self.now.depth (E.pre self.now.judge_expr) (E.post self.now.judge_expr) (S.pre self.now.judge_specifiers) (S.post self.now.judge_specifiers) (D.pre self.now.judge_form) (D.post self.now.judge_form) }
-        ensures { Answers operand_view (walks.judge called (tree.Prefix operator at (expr_view e.now)) (known types.old scope.old)) result (known types.new scope.new) }
+        requires nests { Nests self.now.depth (E.pre self.now.judge_expr)
+            (E.post self.now.judge_expr) (S.pre self.now.judge_specifiers)
+            (S.post self.now.judge_specifiers) (D.pre self.now.judge_form)
+            (D.post self.now.judge_form) }
+        ensures { Answers operand_view (walks.judge called (tree.Prefix operator at
+            (expr_view e.now)) (known types.old scope.old)) result (known types.new scope.new) }
     {
         let x = self.expr(scope, types, false, e)?;
         prefix(scope, types, operator, at, x)
@@ -124,8 +140,13 @@ impl<
         operator: Step,
         at: Place,
     ) -> Result<Operand, Fault>
-        requires nests { Nests self.now.depth (E.pre self.now.judge_expr) (E.post self.now.judge_expr) (S.pre self.now.judge_specifiers) (S.post self.now.judge_specifiers) (D.pre self.now.judge_form) (D.post self.now.judge_form) }
-        ensures { Answers operand_view (walks.judge called (tree.Postfix (expr_view e.now) operator at) (known types.old scope.old)) result (known types.new scope.new) }
+        requires nests { Nests self.now.depth (E.pre self.now.judge_expr)
+            (E.post self.now.judge_expr) (S.pre self.now.judge_specifiers)
+            (S.post self.now.judge_specifiers) (D.pre self.now.judge_form)
+            (D.post self.now.judge_form) }
+        ensures { Answers operand_view (walks.judge called (tree.Postfix
+            (expr_view e.now) operator at) (known types.old scope.old)) result
+            (known types.new scope.new) }
     {
         let x = self.expr(scope, types, false, e)?;
         step_after(scope, types, operator, at, x)
@@ -143,8 +164,13 @@ impl<
         a: &Expr,
         b: &Expr,
     ) -> Result<Operand, Fault>
-        requires nests { Nests self.now.depth (E.pre self.now.judge_expr) (E.post self.now.judge_expr) (S.pre self.now.judge_specifiers) (S.post self.now.judge_specifiers) (D.pre self.now.judge_form) (D.post self.now.judge_form) }
-        ensures { Answers operand_view (walks.judge called (tree.Conditional (expr_view c.now) at (expr_view a.now) (expr_view b.now)) (known types.old scope.old)) result (known types.new scope.new) }
+        requires nests { Nests self.now.depth (E.pre self.now.judge_expr)
+            (E.post self.now.judge_expr) (S.pre self.now.judge_specifiers)
+            (S.post self.now.judge_specifiers) (D.pre self.now.judge_form)
+            (D.post self.now.judge_form) }
+        ensures { Answers operand_view (walks.judge called (tree.Conditional (expr_view c.now) at
+            (expr_view a.now) (expr_view b.now)) (known types.old scope.old)) result
+            (known types.new scope.new) }
     {
         let z = self.value(scope, types, c)?;
         let x = self.value(scope, types, a)?;
@@ -163,8 +189,13 @@ impl<
         at: Place,
         b: &Expr,
     ) -> Result<Operand, Fault>
-        requires nests { Nests self.now.depth (E.pre self.now.judge_expr) (E.post self.now.judge_expr) (S.pre self.now.judge_specifiers) (S.post self.now.judge_specifiers) (D.pre self.now.judge_form) (D.post self.now.judge_form) }
-        ensures { Answers operand_view (walks.judge called (tree.Assign assignment.Assign (expr_view a.now) at (expr_view b.now)) (known types.old scope.old)) result (known types.new scope.new) }
+        requires nests { Nests self.now.depth (E.pre self.now.judge_expr)
+            (E.post self.now.judge_expr) (S.pre self.now.judge_specifiers)
+            (S.post self.now.judge_specifiers) (D.pre self.now.judge_form)
+            (D.post self.now.judge_form) }
+        ensures { Answers operand_view (walks.judge called (tree.Assign assignment.Assign
+            (expr_view a.now) at (expr_view b.now)) (known types.old scope.old)) result
+            (known types.new scope.new) }
     {
         let x = self.expr(scope, types, false, a)?;
         let y = self.expr(scope, types, false, b)?;
@@ -184,8 +215,13 @@ impl<
         b: &Expr,
     ) -> Result<Operand, Fault>
         requires compound { rules.is_compound operator ≡ true }
-        requires nests { Nests self.now.depth (E.pre self.now.judge_expr) (E.post self.now.judge_expr) (S.pre self.now.judge_specifiers) (S.post self.now.judge_specifiers) (D.pre self.now.judge_form) (D.post self.now.judge_form) }
-        ensures { Answers operand_view (walks.judge called (tree.Assign operator (expr_view a.now) at (expr_view b.now)) (known types.old scope.old)) result (known types.new scope.new) }
+        requires nests { Nests self.now.depth (E.pre self.now.judge_expr)
+            (E.post self.now.judge_expr) (S.pre self.now.judge_specifiers)
+            (S.post self.now.judge_specifiers) (D.pre self.now.judge_form)
+            (D.post self.now.judge_form) }
+        ensures { Answers operand_view (walks.judge called (tree.Assign operator
+            (expr_view a.now) at (expr_view b.now)) (known types.old scope.old)) result
+            (known types.new scope.new) }
     {
         let x = self.expr(scope, types, false, a)?;
         let y = self.value(scope, types, b)?;
@@ -203,8 +239,13 @@ impl<
         paren: Place,
         name: &TypeName,
     ) -> Result<Operand, Fault>
-        requires nests { Nests self.now.depth (E.pre self.now.judge_expr) (E.post self.now.judge_expr) (S.pre self.now.judge_specifiers) (S.post self.now.judge_specifiers) (D.pre self.now.judge_form) (D.post self.now.judge_form) }
-        ensures { Answers operand_view (walks.judge called (tree.SizeOfType at paren (type_name_view name.now)) (known types.old scope.old)) result (known types.new scope.new) }
+        requires nests { Nests self.now.depth (E.pre self.now.judge_expr)
+            (E.post self.now.judge_expr) (S.pre self.now.judge_specifiers)
+            (S.post self.now.judge_specifiers) (D.pre self.now.judge_form)
+            (D.post self.now.judge_form) }
+        ensures { Answers operand_view (walks.judge called (tree.SizeOfType at paren
+            (type_name_view name.now)) (known types.old scope.old)) result
+            (known types.new scope.new) }
     {
         let name = self.type_name(scope, types, name)?;
         size_of_type(scope, types, at, paren, name)
@@ -221,8 +262,12 @@ impl<
         name: &TypeName,
         e: &Expr,
     ) -> Result<Operand, Fault>
-        requires nests { Nests self.now.depth (E.pre self.now.judge_expr) (E.post self.now.judge_expr) (S.pre self.now.judge_specifiers) (S.post self.now.judge_specifiers) (D.pre self.now.judge_form) (D.post self.now.judge_form) }
-        ensures { Answers operand_view (walks.judge called (tree.Cast at (type_name_view name.now) (expr_view e.now)) (known types.old scope.old)) result (known types.new scope.new) }
+        requires nests { Nests self.now.depth (E.pre self.now.judge_expr)
+            (E.post self.now.judge_expr) (S.pre self.now.judge_specifiers)
+            (S.post self.now.judge_specifiers) (D.pre self.now.judge_form)
+            (D.post self.now.judge_form) }
+        ensures { Answers operand_view (walks.judge called (tree.Cast at (type_name_view name.now)
+            (expr_view e.now)) (known types.old scope.old)) result (known types.new scope.new) }
     {
         let to = self.type_name(scope, types, name)?;
         let x = self.expr(scope, types, false, e)?;
@@ -239,8 +284,12 @@ impl<
         at: Place,
         e: &Expr,
     ) -> Result<Operand, Fault>
-        requires nests { Nests self.now.depth (E.pre self.now.judge_expr) (E.post self.now.judge_expr) (S.pre self.now.judge_specifiers) (S.post self.now.judge_specifiers) (D.pre self.now.judge_form) (D.post self.now.judge_form) }
-        ensures { Answers operand_view (walks.judge called (tree.Paren at (expr_view e.now)) (known types.old scope.old)) result (known types.new scope.new) }
+        requires nests { Nests self.now.depth (E.pre self.now.judge_expr)
+            (E.post self.now.judge_expr) (S.pre self.now.judge_specifiers)
+            (S.post self.now.judge_specifiers) (D.pre self.now.judge_form)
+            (D.post self.now.judge_form) }
+        ensures { Answers operand_view (walks.judge called (tree.Paren at (expr_view e.now))
+            (known types.old scope.old)) result (known types.new scope.new) }
     {
         let x = self.expr(scope, types, called, e)?;
         paren(scope, types, at, x)
@@ -258,8 +307,13 @@ impl<
         at: Place,
         word: &Identifier,
     ) -> Result<Operand, Fault>
-        requires nests { Nests self.now.depth (E.pre self.now.judge_expr) (E.post self.now.judge_expr) (S.pre self.now.judge_specifiers) (S.post self.now.judge_specifiers) (D.pre self.now.judge_form) (D.post self.now.judge_form) }
-        ensures { Answers operand_view (walks.judge called (tree.Member (expr_view e.now) operator at word.now) (known types.old scope.old)) result (known types.new scope.new) }
+        requires nests { Nests self.now.depth (E.pre self.now.judge_expr)
+            (E.post self.now.judge_expr) (S.pre self.now.judge_specifiers)
+            (S.post self.now.judge_specifiers) (D.pre self.now.judge_form)
+            (D.post self.now.judge_form) }
+        ensures { Answers operand_view (walks.judge called (tree.Member
+            (expr_view e.now) operator at word.now) (known types.old scope.old)) result
+            (known types.new scope.new) }
     {
         match operator {
             MemberOperator::Dot => {
@@ -281,8 +335,13 @@ impl<
         types: &mut Types,
         list: &[Expr],
     ) -> Result<Vec<Value>, Fault>
-        requires nests { Nests self.now.depth (E.pre self.now.judge_expr) (E.post self.now.judge_expr) (S.pre self.now.judge_specifiers) (S.post self.now.judge_specifiers) (D.pre self.now.judge_form) (D.post self.now.judge_form) }
-        ensures { Answers (λ values. map value_view values.items) (walks.judge_arguments (arguments_of (map expr_view list.now)) (known types.old scope.old)) result (known types.new scope.new) }
+        requires nests { Nests self.now.depth (E.pre self.now.judge_expr)
+            (E.post self.now.judge_expr) (S.pre self.now.judge_specifiers)
+            (S.post self.now.judge_specifiers) (D.pre self.now.judge_form)
+            (D.post self.now.judge_form) }
+        ensures { Answers (λ values. map value_view values.items)
+            (walks.judge_arguments (arguments_of (map expr_view list.now))
+            (known types.old scope.old)) result (known types.new scope.new) }
     {
         let mut values = Vec::new(scope.alloc());
         for e in list {
@@ -302,8 +361,13 @@ impl<
         at: Place,
         arguments: &[Expr],
     ) -> Result<Operand, Fault>
-        requires nests { Nests self.now.depth (E.pre self.now.judge_expr) (E.post self.now.judge_expr) (S.pre self.now.judge_specifiers) (S.post self.now.judge_specifiers) (D.pre self.now.judge_form) (D.post self.now.judge_form) }
-        ensures { Answers operand_view (walks.judge called (tree.Call (expr_view f.now) at (arguments_of (map expr_view arguments.now))) (known types.old scope.old)) result (known types.new scope.new) }
+        requires nests { Nests self.now.depth (E.pre self.now.judge_expr)
+            (E.post self.now.judge_expr) (S.pre self.now.judge_specifiers)
+            (S.post self.now.judge_specifiers) (D.pre self.now.judge_form)
+            (D.post self.now.judge_form) }
+        ensures { Answers operand_view (walks.judge called (tree.Call (expr_view f.now) at
+            (arguments_of (map expr_view arguments.now))) (known types.old scope.old)) result
+            (known types.new scope.new) }
     {
         let x = self.expr(scope, types, true, f)?;
         let f = value(scope, types, x)?;
@@ -322,8 +386,13 @@ impl<
         at: Place,
         b: &Expr,
     ) -> Result<Operand, Fault>
-        requires nests { Nests self.now.depth (E.pre self.now.judge_expr) (E.post self.now.judge_expr) (S.pre self.now.judge_specifiers) (S.post self.now.judge_specifiers) (D.pre self.now.judge_form) (D.post self.now.judge_form) }
-        ensures { Answers operand_view (walks.judge called (tree.Assign operator (expr_view a.now) at (expr_view b.now)) (known types.old scope.old)) result (known types.new scope.new) }
+        requires nests { Nests self.now.depth (E.pre self.now.judge_expr)
+            (E.post self.now.judge_expr) (S.pre self.now.judge_specifiers)
+            (S.post self.now.judge_specifiers) (D.pre self.now.judge_form)
+            (D.post self.now.judge_form) }
+        ensures { Answers operand_view (walks.judge called (tree.Assign operator
+            (expr_view a.now) at (expr_view b.now)) (known types.old scope.old)) result
+            (known types.new scope.new) }
     {
         match operator {
             Assignment::Assign => self.assign_layer(scope, types, called, a, at, b),
@@ -340,8 +409,12 @@ impl<
         called: bool,
         e: &Expr,
     ) -> Result<Operand, Fault>
-        requires nests { Nests self.now.depth (E.pre self.now.judge_expr) (E.post self.now.judge_expr) (S.pre self.now.judge_specifiers) (S.post self.now.judge_specifiers) (D.pre self.now.judge_form) (D.post self.now.judge_form) }
-        ensures { Answers operand_view (walks.judge called (expr_view e.now) (known types.old scope.old)) result (known types.new scope.new) }
+        requires nests { Nests self.now.depth (E.pre self.now.judge_expr)
+            (E.post self.now.judge_expr) (S.pre self.now.judge_specifiers)
+            (S.post self.now.judge_specifiers) (D.pre self.now.judge_form)
+            (D.post self.now.judge_form) }
+        ensures { Answers operand_view (walks.judge called (expr_view e.now)
+            (known types.old scope.old)) result (known types.new scope.new) }
     {
         match e {
             Expr::Name(word) => name(scope, types, called, word),

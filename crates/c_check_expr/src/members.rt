@@ -45,7 +45,8 @@ fn member_type(
     form: &TypedForm,
     base: TypeId,
 ) -> Result<TypeId, Fault>
-    ensures { Answers (λ t. t) (declaring.member_type at (typed_form_view form.now) base (known types.old scope.now)) result (known types.new scope.now) }
+    ensures { Answers (λ t. t) (declaring.member_type at (typed_form_view form.now) base
+        (known types.old scope.now)) result (known types.new scope.now) }
 {
     let t = form_makes(scope, types, at, Nearest::Written, form, base)?;
     if !is_complete_at(scope, types, t) {
@@ -73,8 +74,12 @@ fn member_named(
     base: TypeId,
     name: Option<&Identifier>,
 ) -> Result<TypeId, Fault>
-    ensures answers { (all : TypedMemberDeclarators) → Answers (λ t. AndDeclarator all (Declares (typed_form_view form.now) t)) (declaring.member_named names.old all (typed_form_view form.now) base (option_copied name.entry) (known types.old scope.now)) result (known types.new scope.now) }
-    ensures named { IfOk result (λ t. names.new ≡ names.old ++ name_bytes (option_copied name.entry) ∷ []) }
+    ensures answers { (all : TypedMemberDeclarators) → Answers
+        (λ t. AndDeclarator all (Declares (typed_form_view form.now) t))
+        (declaring.member_named names.old all (typed_form_view form.now) base
+        (option_copied name.entry) (known types.old scope.now)) result (known types.new scope.now) }
+    ensures named { IfOk result (λ t. names.new ≡ names.old ++ name_bytes
+        (option_copied name.entry) ∷ []) }
 {
     let Some(name) = name else {
         return Err(no_room(NOWHERE));
@@ -102,9 +107,19 @@ impl<
         base: TypeId,
         d: &Declarator,
     ) -> Result<TypedDeclarator, Fault>
-        requires nests { Nests self.now.depth (E.pre self.now.judge_expr) (E.post self.now.judge_expr) (S.pre self.now.judge_specifiers) (S.post self.now.judge_specifiers) (D.pre self.now.judge_form) (D.post self.now.judge_form) }
-        ensures answers { (start : State) (first : List Name) (before : MemberDeclarators) (done : TypedMemberDeclarators) → first ++ declarator_names done ≡ names.old → walks.judge_member_declarators base first before start ≡ Gives done (known types.old scope.old) → Answers (λ made. AndDeclarator done (typed_declarator_view made)) (walks.judge_member_declarators base first (and_declarator before (declarator_view d.now)) start) result (known types.new scope.new) }
-        ensures named { IfOk result (λ made. names.new ≡ names.old ++ name_bytes (name_of (typed_declarator_view made)) ∷ []) }
+        requires nests { Nests self.now.depth (E.pre self.now.judge_expr)
+            (E.post self.now.judge_expr) (S.pre self.now.judge_specifiers)
+            (S.post self.now.judge_specifiers) (D.pre self.now.judge_form)
+            (D.post self.now.judge_form) }
+        ensures answers { (start : State) (first : List Name) (before : MemberDeclarators)
+            (done : TypedMemberDeclarators) → first ++ declarator_names done ≡ names.old
+            → walks.judge_member_declarators base first before start
+            ≡ Gives done (known types.old scope.old) → Answers
+            (λ made. AndDeclarator done (typed_declarator_view made))
+            (walks.judge_member_declarators base first (and_declarator before
+            (declarator_view d.now)) start) result (known types.new scope.new) }
+        ensures named { IfOk result (λ made. names.new ≡ names.old ++ name_bytes
+            (name_of (typed_declarator_view made)) ∷ []) }
     {
         let name = declarator_name(d);
         let form = self.form(scope, types, Naming::None, name_place(name, NOWHERE), d)?;
@@ -126,9 +141,16 @@ impl<
         base: TypeId,
         list: &[Declarator],
     ) -> Result<Items<TypedDeclarator>, Fault>
-        requires nests { Nests self.now.depth (E.pre self.now.judge_expr) (E.post self.now.judge_expr) (S.pre self.now.judge_specifiers) (S.post self.now.judge_specifiers) (D.pre self.now.judge_form) (D.post self.now.judge_form) }
-        ensures answers { Answers (λ found. typed_member_declarators_of (map typed_declarator_view found)) (walks.judge_member_declarators base names.old (member_declarators_of (map declarator_view list.now)) (known types.old scope.old)) result (known types.new scope.new) }
-        ensures named { IfOk result (λ found. names.new ≡ names.old ++ declarator_names (typed_member_declarators_of (map typed_declarator_view found))) }
+        requires nests { Nests self.now.depth (E.pre self.now.judge_expr)
+            (E.post self.now.judge_expr) (S.pre self.now.judge_specifiers)
+            (S.post self.now.judge_specifiers) (D.pre self.now.judge_form)
+            (D.post self.now.judge_form) }
+        ensures answers { Answers (λ found. typed_member_declarators_of
+            (map typed_declarator_view found)) (walks.judge_member_declarators base names.old
+            (member_declarators_of (map declarator_view list.now)) (known types.old scope.old))
+            result (known types.new scope.new) }
+        ensures named { IfOk result (λ found. names.new ≡ names.old ++ declarator_names
+            (typed_member_declarators_of (map typed_declarator_view found))) }
     {
         let mut found = Items::new(scope.alloc());
         for d in list {
@@ -146,9 +168,17 @@ impl<
         names: &mut MemberNames,
         row: &Members,
     ) -> Result<TypedMembers, Fault>
-        requires nests { Nests self.now.depth (E.pre self.now.judge_expr) (E.post self.now.judge_expr) (S.pre self.now.judge_specifiers) (S.post self.now.judge_specifiers) (D.pre self.now.judge_form) (D.post self.now.judge_form) }
-        ensures answers { (start : State) (before : tree.Members) (done : typed.TypedMembers) → member_names done ≡ names.old → walks.judge_members before start ≡ Gives done (known types.old scope.old) → Answers (λ made. typed_members_view made done) (walks.judge_members (members_view row.now before) start) result (known types.new scope.new) }
-        ensures named { IfOk result (λ made. (done : typed.TypedMembers) → member_names done ≡ names.old → member_names (typed_members_view made done) ≡ names.new) }
+        requires nests { Nests self.now.depth (E.pre self.now.judge_expr)
+            (E.post self.now.judge_expr) (S.pre self.now.judge_specifiers)
+            (S.post self.now.judge_specifiers) (D.pre self.now.judge_form)
+            (D.post self.now.judge_form) }
+        ensures answers { (start : State) (before : tree.Members) (done : typed.TypedMembers)
+            → member_names done ≡ names.old → walks.judge_members before start
+            ≡ Gives done (known types.old scope.old) → Answers
+            (λ made. typed_members_view made done) (walks.judge_members
+            (members_view row.now before) start) result (known types.new scope.new) }
+        ensures named { IfOk result (λ made. (done : typed.TypedMembers) → member_names done
+            ≡ names.old → member_names (typed_members_view made done) ≡ names.new) }
     {
         let specifiers = self.specifiers(scope, types, &row.specifiers)?;
         let base = specifiers.ty;
@@ -168,9 +198,16 @@ impl<
         names: &mut MemberNames,
         rows: &[Members],
     ) -> Result<Items<TypedMembers>, Fault>
-        requires nests { Nests self.now.depth (E.pre self.now.judge_expr) (E.post self.now.judge_expr) (S.pre self.now.judge_specifiers) (S.post self.now.judge_specifiers) (D.pre self.now.judge_form) (D.post self.now.judge_form) }
-        ensures answers { member_names no_typed_member ≡ names.old → Answers (λ found. added no_typed_member (map typed_members_view found)) (walks.judge_members (added NoMember (map members_view rows.now)) (known types.old scope.old)) result (known types.new scope.new) }
-        ensures named { IfOk result (λ found. member_names no_typed_member ≡ names.old → member_names (added no_typed_member (map typed_members_view found)) ≡ names.new) }
+        requires nests { Nests self.now.depth (E.pre self.now.judge_expr)
+            (E.post self.now.judge_expr) (S.pre self.now.judge_specifiers)
+            (S.post self.now.judge_specifiers) (D.pre self.now.judge_form)
+            (D.post self.now.judge_form) }
+        ensures answers { member_names no_typed_member ≡ names.old
+            → Answers (λ found. added no_typed_member (map typed_members_view found))
+            (walks.judge_members (added NoMember (map members_view rows.now))
+            (known types.old scope.old)) result (known types.new scope.new) }
+        ensures named { IfOk result (λ found. member_names no_typed_member ≡ names.old
+            → member_names (added no_typed_member (map typed_members_view found)) ≡ names.new) }
     {
         let mut found = Items::new(scope.alloc());
         for row in rows {

@@ -46,7 +46,8 @@ use cc_base::{Fault, NodeId, Place, Rule, TypeId};
 
 /// Whether a typed declarator that may be left out has stars or parts.
 fn is_derived_declared(d: Option<&TypedForm>) -> bool
-    ensures { result ≡ is_derived_declared (typed_declared_of (option_map typed_form_view (option_copied d.entry))) }
+    ensures { result ≡ is_derived_declared (typed_declared_of
+        (option_map typed_form_view (option_copied d.entry))) }
 {
     match d {
         Some(form) => is_derived(form),
@@ -63,7 +64,8 @@ fn adjusted_shape(
     node: NodeId,
     base: TypeId,
 ) -> Result<TypeId, Fault>
-    ensures { Answers (λ t. t) (declaring.adjusted_shape at node base (shape_at types.old base) (known types.old scope.now)) result (known types.new scope.now) }
+    ensures { Answers (λ t. t) (declaring.adjusted_shape at node base (shape_at types.old base)
+        (known types.old scope.now)) result (known types.new scope.now) }
 {
     let to = match shape_at(types, base) {
         Some(TypeShape::Array(element, _)) => *element,
@@ -83,7 +85,9 @@ fn parameter_makes(
     d: Option<&TypedForm>,
     base: TypeId,
 ) -> Result<TypeId, Fault>
-    ensures { Answers (λ t. t) (declaring.parameter_makes at adjusted (typed_declared_of (option_map typed_form_view (option_copied d.entry))) base (known types.old scope.now)) result (known types.new scope.now) }
+    ensures { Answers (λ t. t) (declaring.parameter_makes at adjusted
+        (typed_declared_of (option_map typed_form_view (option_copied d.entry))) base
+        (known types.old scope.now)) result (known types.new scope.now) }
 {
     match adjusted {
         None => declared_makes(scope, types, at, Nearest::Written, d, base),
@@ -104,7 +108,9 @@ fn adjusted_with_node(
     at: Place,
     place: Option<Place>,
 ) -> Result<Option<Adjusted>, Fault>
-    ensures answers { (table : Table) → Answers (λ adjusted. adjusted) (declaring.adjusted_with_node at place (known table scope.old)) result (known table scope.new) }
+    ensures answers { (table : Table) → Answers (λ adjusted. adjusted)
+        (declaring.adjusted_with_node at place (known table scope.old)) result
+        (known table scope.new) }
     ensures same { scope.new.scopes ≡ scope.old.scopes }
 {
     match place {
@@ -118,7 +124,8 @@ fn adjusted_with_node(
 
 /// The rules of a parameter's type.
 fn type_fault(scope: &Scope, types: &Types, void: bool, t: TypeId, at: Place) -> Option<Fault>
-    ensures { result ≡ first_broken (tests.parameter_type_tests types.now scope.now.scopes void t at) }
+    ensures { result ≡ first_broken (tests.parameter_type_tests types.now scope.now.scopes void t
+        at) }
 {
     if !void && !is_complete_at(scope, types, t) {
         return Some(refusal(at, Rule::Incomplete));
@@ -149,7 +156,8 @@ fn parameter_declared(
     t: TypeId,
 ) -> Result<TypeId, Fault>
     requires { is_here scope.old.scopes (option_copied name) ≡ false }
-    ensures { (table : Table) → Answers (λ t. t) (declaring.parameter_declared at (option_copied name.entry) home t (known table scope.old)) result (known table scope.new) }
+    ensures { (table : Table) → Answers (λ t. t) (declaring.parameter_declared at
+        (option_copied name.entry) home t (known table scope.old)) result (known table scope.new) }
 {
     match name {
         None => Ok(t),
@@ -166,8 +174,10 @@ fn parameter_declared(
 /// The place of a specifier that is a typedef's name.
 #[tactic(auto, using(c_tree::proofs::ViewLaws::expr_views))]
 fn name_of_typedef(specifier: &Specifier) -> Option<Place>
-    ensures some { IfSome result (λ at. (all : PlainSpecifiers) → declaring.typedef_place (AndSpecifier all (specifier_view specifier.now)) ≡ at) }
-    ensures none { result ≡ None → (all : PlainSpecifiers) → declaring.typedef_place (AndSpecifier all (specifier_view specifier.now)) ≡ declaring.typedef_place all }
+    ensures some { IfSome result (λ at. (all : PlainSpecifiers)
+        → declaring.typedef_place (AndSpecifier all (specifier_view specifier.now)) ≡ at) }
+    ensures none { result ≡ None → (all : PlainSpecifiers) → declaring.typedef_place
+        (AndSpecifier all (specifier_view specifier.now)) ≡ declaring.typedef_place all }
 {
     match specifier {
         Specifier::Typedef(name) => Some(name.place),
@@ -191,7 +201,8 @@ fn typedef_place(specifiers: &Specifiers) -> Place
 }
 
 fn declared_name(d: Option<&TypedForm>) -> Option<&Identifier>
-    ensures { option_copied result ≡ declared_identifier (typed_declared_of (option_map typed_form_view (option_copied d.entry))) }
+    ensures { option_copied result ≡ declared_identifier
+        (typed_declared_of (option_map typed_form_view (option_copied d.entry))) }
 {
     match d {
         Some(form) => name_of(form),
@@ -200,7 +211,8 @@ fn declared_name(d: Option<&TypedForm>) -> Option<&Identifier>
 }
 
 fn declared_home(d: Option<&TypedForm>) -> Home
-    ensures { result ≡ declared_home (typed_declared_of (option_map typed_form_view (option_copied d.entry))) }
+    ensures { result ≡ declared_home (typed_declared_of
+        (option_map typed_form_view (option_copied d.entry))) }
 {
     match d {
         Some(form) => home_of(form),
@@ -218,8 +230,13 @@ fn declared_type(
     d: Option<&TypedForm>,
     base: TypeId,
 ) -> Result<TypeId, Fault>
-    requires { is_here scope.old.scopes (declared_identifier (typed_declared_of (option_map typed_form_view (option_copied d)))) ≡ false }
-    ensures { let one = typed_declared_of (option_map typed_form_view (option_copied d.entry)) in Answers (λ t. t) (next (declaring.parameter_makes at adjusted one base (known types.old scope.old)) (λ t. obeying (λ s. tests.parameter_type_tests s.table s.seen.scopes void t at) (declaring.parameter_declared at (declared_identifier one) (declared_home one) t))) result (known types.new scope.new) }
+    requires { is_here scope.old.scopes (declared_identifier
+        (typed_declared_of (option_map typed_form_view (option_copied d)))) ≡ false }
+    ensures { let one = typed_declared_of (option_map typed_form_view (option_copied d.entry)) in
+        Answers (λ t. t) (next (declaring.parameter_makes at adjusted one base
+        (known types.old scope.old)) (λ t. obeying (λ s. tests.parameter_type_tests s.table
+        s.seen.scopes void t at) (declaring.parameter_declared at (declared_identifier one)
+        (declared_home one) t))) result (known types.new scope.new) }
 {
     let t = parameter_makes(scope, types, at, adjusted, d, base)?;
     if let Some(fault) = type_fault(scope, types, void, t, at) {
@@ -240,7 +257,11 @@ fn made_parameter(
     specifiers: TypedSpecifiers,
     declarator: Option<TypedForm>,
 ) -> Result<TypedParameter, Fault>
-    ensures { (all : TypedParameters) → Answers (λ made. typed_parameter_view made all) (declaring.parameter void at (λ base. declaring.adjusted_at (derived_view derived) base named) all (typed_specifiers_view specifiers) (typed_declared_of (option_map typed_form_view declarator)) (known types.old scope.old)) result (known types.new scope.new) }
+    ensures { (all : TypedParameters) → Answers (λ made. typed_parameter_view made all)
+        (declaring.parameter void at (λ base. declaring.adjusted_at
+        (derived_view derived) base named) all (typed_specifiers_view specifiers)
+        (typed_declared_of (option_map typed_form_view declarator)) (known types.old scope.old))
+        result (known types.new scope.new) }
 {
     let d = declarator.as_ref();
     if is_here(scope, declared_name(d)) {
@@ -272,8 +293,15 @@ impl<
         void: bool,
         one: &Parameter,
     ) -> Result<TypedParameter, Fault>
-        requires nests { Nests self.now.depth (E.pre self.now.judge_expr) (E.post self.now.judge_expr) (S.pre self.now.judge_specifiers) (S.post self.now.judge_specifiers) (D.pre self.now.judge_form) (D.post self.now.judge_form) }
-        ensures { (start : State) (before : Parameters) (done : TypedParameters) → walks.judge_parameters void before start ≡ Gives done (known types.old scope.old) → Answers (λ made. typed_parameter_view made done) (walks.judge_parameters void (parameter_view one.now before) start) result (known types.new scope.new) }
+        requires nests { Nests self.now.depth (E.pre self.now.judge_expr)
+            (E.post self.now.judge_expr) (S.pre self.now.judge_specifiers)
+            (S.post self.now.judge_specifiers) (D.pre self.now.judge_form)
+            (D.post self.now.judge_form) }
+        ensures { (start : State) (before : Parameters) (done : TypedParameters)
+            → walks.judge_parameters void before start ≡ Gives done (known types.old scope.old)
+            → Answers (λ made. typed_parameter_view made done)
+            (walks.judge_parameters void (parameter_view one.now before) start) result
+            (known types.new scope.new) }
     {
         let at = declared_place(&one.specifiers, &one.declarator);
         let specifiers = self.specifiers(scope, types, &one.specifiers)?;
@@ -294,8 +322,13 @@ impl<
         void: bool,
         list: &[Parameter],
     ) -> Result<Items<TypedParameter>, Fault>
-        requires nests { Nests self.now.depth (E.pre self.now.judge_expr) (E.post self.now.judge_expr) (S.pre self.now.judge_specifiers) (S.post self.now.judge_specifiers) (D.pre self.now.judge_form) (D.post self.now.judge_form) }
-        ensures { Answers (λ found. added no_typed_parameter (map typed_parameter_view found)) (walks.judge_parameters void (added NoParameter (map parameter_view list.now)) (known types.old scope.old)) result (known types.new scope.new) }
+        requires nests { Nests self.now.depth (E.pre self.now.judge_expr)
+            (E.post self.now.judge_expr) (S.pre self.now.judge_specifiers)
+            (S.post self.now.judge_specifiers) (D.pre self.now.judge_form)
+            (D.post self.now.judge_form) }
+        ensures { Answers (λ found. added no_typed_parameter (map typed_parameter_view found))
+            (walks.judge_parameters void (added NoParameter (map parameter_view list.now))
+            (known types.old scope.old)) result (known types.new scope.new) }
     {
         let mut found = Items::new(scope.alloc());
         for one in list {
@@ -313,9 +346,17 @@ impl<
         at: Place,
         list: &[Parameter],
     ) -> Result<(Items<TypedParameter>, Level), Fault>
-        requires nests { Nests self.now.depth (E.pre self.now.judge_expr) (E.post self.now.judge_expr) (S.pre self.now.judge_specifiers) (S.post self.now.judge_specifiers) (D.pre self.now.judge_form) (D.post self.now.judge_form) }
-        ensures level { IfOk result (λ made. level_given (scope_of_list (Some (added NoParameter (map parameter_view list.now))) (known types.old scope.old)) ≡ made.1) }
-        ensures answers { Answers (λ made. added no_typed_parameter (map typed_parameter_view made.0)) (walks.judge_prototype at (added NoParameter (map parameter_view list.now)) (known types.old scope.old)) result (known types.new scope.new) }
+        requires nests { Nests self.now.depth (E.pre self.now.judge_expr)
+            (E.post self.now.judge_expr) (S.pre self.now.judge_specifiers)
+            (S.post self.now.judge_specifiers) (D.pre self.now.judge_form)
+            (D.post self.now.judge_form) }
+        ensures level { IfOk result (λ made. level_given (scope_of_list
+            (Some (added NoParameter (map parameter_view list.now))) (known types.old scope.old))
+            ≡ made.1) }
+        ensures answers { Answers (λ made. added no_typed_parameter
+            (map typed_parameter_view made.0)) (walks.judge_prototype at
+            (added NoParameter (map parameter_view list.now)) (known types.old scope.old)) result
+            (known types.new scope.new) }
     {
         scope.enter()?;
         let found = self.parameters(scope, types, is_void_alone(list), list)?;
@@ -332,7 +373,8 @@ impl<
 /// Whether the specifiers are `void` by itself.
 #[tactic(auto, using(c_tree::proofs::ViewLaws::expr_views, c_tree::proofs::PushLaws::pushes))]
 fn is_void_word(list: &[Specifier]) -> bool
-    ensures { result ≡ is_void_alone (AndParameter NoParameter (specifiers_of (map specifier_view list.now)) NotDeclared) }
+    ensures { result ≡ is_void_alone (AndParameter NoParameter
+        (specifiers_of (map specifier_view list.now)) NotDeclared) }
 {
     let Some((last, before)) = list.split_last() else {
         return false;
@@ -357,7 +399,8 @@ fn is_void_itself(one: &Parameter) -> bool
 /// Of two parameters none is `void`.
 #[tactic(auto, using(c_tree::proofs::ViewLaws::expr_views))]
 fn is_void_behind(last: &Parameter, other: &Parameter) -> bool
-    ensures { (all : Parameters) → result ≡ is_void_alone (parameter_view last.now (parameter_view other.now all)) }
+    ensures { (all : Parameters) → result ≡ is_void_alone
+        (parameter_view last.now (parameter_view other.now all)) }
 {
     let (_last, _other) = (&last.declarator, &other.declarator);
     false

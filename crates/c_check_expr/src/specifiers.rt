@@ -43,7 +43,8 @@ pub(crate) enum Named {
 /// What a list names with a specifier more.
 #[tactic(auto, using(c_tree::proofs::TypedViewLaws::typed_views))]
 pub(crate) fn named_with(specifier: &TypedSpecifier, before: Named) -> Named
-    ensures { named_view result ≡ named_by_specifier (typed_specifier_view specifier.now) (named_view before) }
+    ensures { named_view result ≡ named_by_specifier (typed_specifier_view specifier.now)
+        (named_view before) }
 {
     match specifier {
         TypedSpecifier::Keyword(_) => before,
@@ -84,8 +85,14 @@ impl<
         brace: Place,
         rows: &[Members],
     ) -> Result<(TypedSpecifier, Words), Fault>
-        requires nests { Nests self.now.depth (E.pre self.now.judge_expr) (E.post self.now.judge_expr) (S.pre self.now.judge_specifiers) (S.post self.now.judge_specifiers) (D.pre self.now.judge_form) (D.post self.now.judge_form) }
-        ensures answers { Answers (λ r. typed_specifier_view r.0) (walks.judge_specifier before.now (tree.Aggregate which at (option_copied name.entry) brace (added tree.NoMember (map members_view rows.now))) (known types.old scope.old)) result (known types.new scope.new) }
+        requires nests { Nests self.now.depth (E.pre self.now.judge_expr)
+            (E.post self.now.judge_expr) (S.pre self.now.judge_specifiers)
+            (S.post self.now.judge_specifiers) (D.pre self.now.judge_form)
+            (D.post self.now.judge_form) }
+        ensures answers { Answers (λ r. typed_specifier_view r.0)
+            (walks.judge_specifier before.now (tree.Aggregate which at
+            (option_copied name.entry) brace (added tree.NoMember (map members_view rows.now)))
+            (known types.old scope.old)) result (known types.new scope.new) }
         ensures counts { IfOk result (λ r. r.1 ≡ counting (typed_specifier_view r.0) before.now) }
     {
         let t = begun(scope, types, which, at, name)?;
@@ -112,8 +119,14 @@ impl<
         list: &[Enumerator],
         comma: bool,
     ) -> Result<(TypedSpecifier, Words), Fault>
-        requires nests { Nests self.now.depth (E.pre self.now.judge_expr) (E.post self.now.judge_expr) (S.pre self.now.judge_specifiers) (S.post self.now.judge_specifiers) (D.pre self.now.judge_form) (D.post self.now.judge_form) }
-        ensures answers { Answers (λ r. typed_specifier_view r.0) (walks.judge_specifier before.now (tree.Enumeration at (option_copied name.entry) brace (added tree.NoEnumerator (map enumerator_view list.now)) comma) (known types.old scope.old)) result (known types.new scope.new) }
+        requires nests { Nests self.now.depth (E.pre self.now.judge_expr)
+            (E.post self.now.judge_expr) (S.pre self.now.judge_specifiers)
+            (S.post self.now.judge_specifiers) (D.pre self.now.judge_form)
+            (D.post self.now.judge_form) }
+        ensures answers { Answers (λ r. typed_specifier_view r.0)
+            (walks.judge_specifier before.now (tree.Enumeration at (option_copied name.entry) brace
+            (added tree.NoEnumerator (map enumerator_view list.now)) comma)
+            (known types.old scope.old)) result (known types.new scope.new) }
         ensures counts { IfOk result (λ r. r.1 ≡ counting (typed_specifier_view r.0) before.now) }
     {
         enumeration_begun(scope, name)?;
@@ -141,8 +154,13 @@ impl<
         before: &Words,
         one: &Specifier,
     ) -> Result<(TypedSpecifier, Words), Fault>
-        requires nests { Nests self.now.depth (E.pre self.now.judge_expr) (E.post self.now.judge_expr) (S.pre self.now.judge_specifiers) (S.post self.now.judge_specifiers) (D.pre self.now.judge_form) (D.post self.now.judge_form) }
-        ensures answers { Answers (λ r. typed_specifier_view r.0) (walks.judge_specifier before.now (specifier_view one.now) (known types.old scope.old)) result (known types.new scope.new) }
+        requires nests { Nests self.now.depth (E.pre self.now.judge_expr)
+            (E.post self.now.judge_expr) (S.pre self.now.judge_specifiers)
+            (S.post self.now.judge_specifiers) (D.pre self.now.judge_form)
+            (D.post self.now.judge_form) }
+        ensures answers { Answers (λ r. typed_specifier_view r.0)
+            (walks.judge_specifier before.now (specifier_view one.now) (known types.old scope.old))
+            result (known types.new scope.new) }
         ensures counts { IfOk result (λ r. r.1 ≡ counting (typed_specifier_view r.0) before.now) }
     {
         match one {
@@ -181,8 +199,13 @@ impl<
         types: &mut Types,
         specifiers: &[Specifier],
     ) -> Result<TypedSpecifiers, Fault>
-        requires nests { Nests self.now.depth (E.pre self.now.judge_expr) (E.post self.now.judge_expr) (S.pre self.now.judge_specifiers) (S.post self.now.judge_specifiers) (D.pre self.now.judge_form) (D.post self.now.judge_form) }
-        ensures { Answers typed_specifiers_view (walks.judge_specifiers (specifiers_of (map specifier_view specifiers.now)) (known types.old scope.old)) result (known types.new scope.new) }
+        requires nests { Nests self.now.depth (E.pre self.now.judge_expr)
+            (E.post self.now.judge_expr) (S.pre self.now.judge_specifiers)
+            (S.post self.now.judge_specifiers) (D.pre self.now.judge_form)
+            (D.post self.now.judge_form) }
+        ensures { Answers typed_specifiers_view (walks.judge_specifiers
+            (specifiers_of (map specifier_view specifiers.now)) (known types.old scope.old)) result
+            (known types.new scope.new) }
     {
         let mut list = Items::new(scope.alloc());
         let mut words = Words::none();
@@ -205,8 +228,13 @@ impl<
         types: &mut Types,
         specifiers: &Specifiers,
     ) -> Result<TypedSpecifiers, Fault>
-        requires nests { Nests self.now.depth (E.pre self.now.judge_expr) (E.post self.now.judge_expr) (S.pre self.now.judge_specifiers) (S.post self.now.judge_specifiers) (D.pre self.now.judge_form) (D.post self.now.judge_form) }
-        ensures { Answers typed_specifiers_view (walks.judge_specifiers (specifiers_view specifiers.now) (known types.old scope.old)) result (known types.new scope.new) }
+        requires nests { Nests self.now.depth (E.pre self.now.judge_expr)
+            (E.post self.now.judge_expr) (S.pre self.now.judge_specifiers)
+            (S.post self.now.judge_specifiers) (D.pre self.now.judge_form)
+            (D.post self.now.judge_form) }
+        ensures { Answers typed_specifiers_view (walks.judge_specifiers
+            (specifiers_view specifiers.now) (known types.old scope.old)) result
+            (known types.new scope.new) }
     {
         self.listed(scope, types, specifiers.list.as_slice())
     }

@@ -35,8 +35,13 @@ impl<
         at: Place,
         d: &Option<Declarator>,
     ) -> Result<Option<TypedForm>, Fault>
-        requires nests { Nests self.now.depth (E.pre self.now.judge_expr) (E.post self.now.judge_expr) (S.pre self.now.judge_specifiers) (S.post self.now.judge_specifiers) (D.pre self.now.judge_form) (D.post self.now.judge_form) }
-        ensures { Answers (λ form. typed_declared_of (option_map typed_form_view form)) (walks.judge_declared which at (declared_of (option_map declarator_view d.now)) (known types.old scope.old)) result (known types.new scope.new) }
+        requires nests { Nests self.now.depth (E.pre self.now.judge_expr)
+            (E.post self.now.judge_expr) (S.pre self.now.judge_specifiers)
+            (S.post self.now.judge_specifiers) (D.pre self.now.judge_form)
+            (D.post self.now.judge_form) }
+        ensures { Answers (λ form. typed_declared_of (option_map typed_form_view form))
+            (walks.judge_declared which at (declared_of (option_map declarator_view d.now))
+            (known types.old scope.old)) result (known types.new scope.new) }
     {
         match d {
             Some(d) => Ok(Some(self.form(scope, types, which, at, d)?)),
@@ -51,8 +56,12 @@ impl<
         types: &mut Types,
         name: &TypeName,
     ) -> Result<Boxed<TypedTypeName>, Fault>
-        requires nests { Nests self.now.depth (E.pre self.now.judge_expr) (E.post self.now.judge_expr) (S.pre self.now.judge_specifiers) (S.post self.now.judge_specifiers) (D.pre self.now.judge_form) (D.post self.now.judge_form) }
-        ensures { Answers typed_type_name_view (walks.judge_type_name (type_name_view name.now) (known types.old scope.old)) result (known types.new scope.new) }
+        requires nests { Nests self.now.depth (E.pre self.now.judge_expr)
+            (E.post self.now.judge_expr) (S.pre self.now.judge_specifiers)
+            (S.post self.now.judge_specifiers) (D.pre self.now.judge_form)
+            (D.post self.now.judge_form) }
+        ensures { Answers typed_type_name_view (walks.judge_type_name (type_name_view name.now)
+            (known types.old scope.old)) result (known types.new scope.new) }
     {
         let at = declared_place(&name.specifiers, &name.declarator);
         let specifiers = self.specifiers(scope, types, &name.specifiers)?;

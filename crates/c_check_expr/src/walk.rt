@@ -24,7 +24,8 @@ pub(crate) fn judge_expr(
     called: bool,
     e: &Expr,
 ) -> Result<Operand, Fault>
-    ensures { Answers operand_view (walks.judge called (expr_view e.now) (known types.old scope.old)) result (known types.new scope.new) }
+    ensures { Answers operand_view (walks.judge called (expr_view e.now)
+        (known types.old scope.old)) result (known types.new scope.new) }
 {
     if depth == 0 {
         return Err(Fault::NoMemory);
@@ -46,7 +47,8 @@ pub(crate) fn judge_specifiers(
     depth: u16,
     specifiers: &Specifiers,
 ) -> Result<TypedSpecifiers, Fault>
-    ensures { Answers typed_specifiers_view (walks.judge_specifiers (specifiers_view specifiers.now) (known types.old scope.old)) result (known types.new scope.new) }
+    ensures { Answers typed_specifiers_view (walks.judge_specifiers (specifiers_view specifiers.now)
+        (known types.old scope.old)) result (known types.new scope.new) }
 {
     if depth == 0 {
         return Err(Fault::NoMemory);
@@ -70,7 +72,8 @@ pub(crate) fn judge_form(
     at: Place,
     d: &Declarator,
 ) -> Result<TypedForm, Fault>
-    ensures { Answers typed_form_view (walks.judge_form which at (declarator_view d.now) (known types.old scope.old)) result (known types.new scope.new) }
+    ensures { Answers typed_form_view (walks.judge_form which at (declarator_view d.now)
+        (known types.old scope.old)) result (known types.new scope.new) }
 {
     if depth == 0 {
         return Err(Fault::NoMemory);

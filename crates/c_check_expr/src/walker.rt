@@ -42,8 +42,12 @@ impl<
         called: bool,
         e: &Expr,
     ) -> Result<Operand, Fault>
-        requires nests { Nests self.now.depth (E.pre self.now.judge_expr) (E.post self.now.judge_expr) (S.pre self.now.judge_specifiers) (S.post self.now.judge_specifiers) (D.pre self.now.judge_form) (D.post self.now.judge_form) }
-        ensures { Answers operand_view (walks.judge called (expr_view e.now) (known types.old scope.old)) result (known types.new scope.new) }
+        requires nests { Nests self.now.depth (E.pre self.now.judge_expr)
+            (E.post self.now.judge_expr) (S.pre self.now.judge_specifiers)
+            (S.post self.now.judge_specifiers) (D.pre self.now.judge_form)
+            (D.post self.now.judge_form) }
+        ensures { Answers operand_view (walks.judge called (expr_view e.now)
+            (known types.old scope.old)) result (known types.new scope.new) }
     {
         (self.judge_expr)(scope, types, self.depth, called, e)
     }
@@ -56,8 +60,12 @@ impl<
         types: &mut Types,
         e: &Expr,
     ) -> Result<Value, Fault>
-        requires nests { Nests self.now.depth (E.pre self.now.judge_expr) (E.post self.now.judge_expr) (S.pre self.now.judge_specifiers) (S.post self.now.judge_specifiers) (D.pre self.now.judge_form) (D.post self.now.judge_form) }
-        ensures { Answers value_view (walks.judge_value (expr_view e.now) (known types.old scope.old)) result (known types.new scope.new) }
+        requires nests { Nests self.now.depth (E.pre self.now.judge_expr)
+            (E.post self.now.judge_expr) (S.pre self.now.judge_specifiers)
+            (S.post self.now.judge_specifiers) (D.pre self.now.judge_form)
+            (D.post self.now.judge_form) }
+        ensures { Answers value_view (walks.judge_value (expr_view e.now)
+            (known types.old scope.old)) result (known types.new scope.new) }
     {
         let x = self.expr(scope, types, false, e)?;
         value(scope, types, x)
@@ -69,9 +77,15 @@ impl<
         types: &mut Types,
         specifiers: &Specifiers,
     ) -> Result<TypedSpecifiers, Fault>
-        requires nests { Nests self.now.depth (E.pre self.now.judge_expr) (E.post self.now.judge_expr) (S.pre self.now.judge_specifiers) (S.post self.now.judge_specifiers) (D.pre self.now.judge_form) (D.post self.now.judge_form) }
-        ensures answers { Answers typed_specifiers_view (walks.judge_specifiers (specifiers_view specifiers.now) (known types.old scope.old)) result (known types.new scope.new) }
-        ensures listed { IsListed (walks.judge_list (specifiers_view specifiers.now) (known types.old scope.old)) result (known types.new scope.new) }
+        requires nests { Nests self.now.depth (E.pre self.now.judge_expr)
+            (E.post self.now.judge_expr) (S.pre self.now.judge_specifiers)
+            (S.post self.now.judge_specifiers) (D.pre self.now.judge_form)
+            (D.post self.now.judge_form) }
+        ensures answers { Answers typed_specifiers_view (walks.judge_specifiers
+            (specifiers_view specifiers.now) (known types.old scope.old)) result
+            (known types.new scope.new) }
+        ensures listed { IsListed (walks.judge_list (specifiers_view specifiers.now)
+            (known types.old scope.old)) result (known types.new scope.new) }
     {
         (self.judge_specifiers)(scope, types, self.depth, specifiers)
     }
@@ -84,8 +98,12 @@ impl<
         at: Place,
         d: &Declarator,
     ) -> Result<TypedForm, Fault>
-        requires nests { Nests self.now.depth (E.pre self.now.judge_expr) (E.post self.now.judge_expr) (S.pre self.now.judge_specifiers) (S.post self.now.judge_specifiers) (D.pre self.now.judge_form) (D.post self.now.judge_form) }
-        ensures { Answers typed_form_view (walks.judge_form which at (declarator_view d.now) (known types.old scope.old)) result (known types.new scope.new) }
+        requires nests { Nests self.now.depth (E.pre self.now.judge_expr)
+            (E.post self.now.judge_expr) (S.pre self.now.judge_specifiers)
+            (S.post self.now.judge_specifiers) (D.pre self.now.judge_form)
+            (D.post self.now.judge_form) }
+        ensures { Answers typed_form_view (walks.judge_form which at (declarator_view d.now)
+            (known types.old scope.old)) result (known types.new scope.new) }
     {
         (self.judge_form)(scope, types, self.depth, which, at, d)
     }

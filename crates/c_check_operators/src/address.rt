@@ -109,7 +109,9 @@ fn address_of_place(
     at: Place,
     p: Boxed<TypedPlace>,
 ) -> Result<Boxed<TypedExpr>, Fault>
-    ensures { Answers (λ e. tests.AsValue (typed_expr_view e)) (operations.address_of_part at (AsPlace (typed_place_view p)) (known types.old scope.old)) result (known types.new scope.new) }
+    ensures { Answers (λ e. tests.AsValue (typed_expr_view e))
+        (operations.address_of_part at (AsPlace (typed_place_view p)) (known types.old scope.old))
+        result (known types.new scope.new) }
 {
     match type_behind(p.get()) {
         Some(t) => Ok(Boxed::new(scope.alloc(), TypedExpr::AddressOfElement(at, p, t))?),
@@ -125,7 +127,8 @@ fn address_of_place(
 
 #[tactic(auto, using(c_tree::proofs::TypedViewLaws::typed_views), unfolding(c_typing::specs::Operations::address_of_part))]
 fn address_of_part(scope: &mut Scope, types: &mut Types, at: Place, x: Part) -> Result<Part, Fault>
-    ensures { Answers part_view (operations.address_of_part at (part_view x) (known types.old scope.old)) result (known types.new scope.new) }
+    ensures { Answers part_view (operations.address_of_part at (part_view x)
+        (known types.old scope.old)) result (known types.new scope.new) }
 {
     match x {
         Part::Place(p) => Ok(Part::Value(address_of_place(scope, types, at, p)?)),
@@ -144,7 +147,8 @@ pub(crate) fn address(
     at: Place,
     x: Operand,
 ) -> Result<Operand, Fault>
-    ensures { Answers operand_view (operations.address at (operand_view x) (known types.old scope.old)) result (known types.new scope.new) }
+    ensures { Answers operand_view (operations.address at (operand_view x)
+        (known types.old scope.old)) result (known types.new scope.new) }
 {
     let fault = address_fault(at, &x.part);
     let allowed = allowed(fault, at, x)?;
@@ -184,7 +188,8 @@ fn is_complete_part(scope: &Scope, types: &Types, x: &Part) -> bool
 
 /// The rules of `sizeof`.
 fn size_fault(scope: &Scope, types: &Types, at: Place, x: &Part) -> Option<Fault>
-    ensures { result ≡ first_broken (tests.size_tests types.now scope.now.scopes at (part_view x.now)) }
+    ensures { result ≡ first_broken (tests.size_tests types.now scope.now.scopes at
+        (part_view x.now)) }
 {
     if is_complete_part(scope, types, x) {
         None
@@ -202,7 +207,9 @@ fn size_of_part(
     begin: Place,
     x: Part,
 ) -> Result<Boxed<TypedExpr>, Fault>
-    ensures { Answers (λ e. tests.AsValue (typed_expr_view e)) (operations.size_of_part at begin (part_view x) (known types.old scope.old)) result (known types.new scope.new) }
+    ensures { Answers (λ e. tests.AsValue (typed_expr_view e))
+        (operations.size_of_part at begin (part_view x) (known types.old scope.old)) result
+        (known types.new scope.new) }
 {
     match x {
         Part::Place(p) => {
@@ -225,7 +232,8 @@ pub(crate) fn size(
     at: Place,
     x: Operand,
 ) -> Result<Operand, Fault>
-    ensures { Answers operand_view (operations.size at (operand_view x) (known types.old scope.old)) result (known types.new scope.new) }
+    ensures { Answers operand_view (operations.size at (operand_view x) (known types.old scope.old))
+        result (known types.new scope.new) }
 {
     let begin = x.place;
     let fault = size_fault(scope, types, at, &x.part);

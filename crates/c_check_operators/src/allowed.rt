@@ -13,7 +13,8 @@ use cc_base::{Fault, Place};
 /// How many values a construct holds at once, where it breaks no rule. The place is that of its first token.
 pub(crate) fn held_within(fault: Option<Fault>, begin: Place, held: u64) -> Result<u32, Fault>
     ensures ok { IfOk result (λ h. (fault ≡ None) × (h ≡ held) × (held ≤ 256)) }
-    ensures err { IfErr result (λ f. (fault ≡ Some f) ⊎ ((fault ≡ None) × (256 < held) × (f ≡ TooLarge begin Held))) }
+    ensures err { IfErr result (λ f. (fault ≡ Some f)
+        ⊎ ((fault ≡ None) × (256 < held) × (f ≡ TooLarge begin Held))) }
 {
     match fault {
         Some(fault) => Err(fault),
@@ -23,8 +24,10 @@ pub(crate) fn held_within(fault: Option<Fault>, begin: Place, held: u64) -> Resu
 
 /// The operand of a construct that begins at the place, with what the construct holds, where it breaks no rule.
 pub(crate) fn allowed(fault: Option<Fault>, begin: Place, x: Operand) -> Result<Operand, Fault>
-    ensures ok { IfOk result (λ y. (fault ≡ None) × (y.part ≡ x.part) × (y.held ≡ held_with 0 (x.held ∷ [])) × (held_with 0 (x.held ∷ []) ≤ 256)) }
-    ensures err { IfErr result (λ f. (fault ≡ Some f) ⊎ ((fault ≡ None) × (256 < held_with 0 (x.held ∷ [])) × (f ≡ TooLarge begin Held))) }
+    ensures ok { IfOk result (λ y. (fault ≡ None) × (y.part ≡ x.part)
+        × (y.held ≡ held_with 0 (x.held ∷ [])) × (held_with 0 (x.held ∷ []) ≤ 256)) }
+    ensures err { IfErr result (λ f. (fault ≡ Some f) ⊎ ((fault ≡ None)
+        × (256 < held_with 0 (x.held ∷ [])) × (f ≡ TooLarge begin Held))) }
 {
     let held = held_within(fault, begin, held_with_one(x.held))?;
     Ok(Operand {

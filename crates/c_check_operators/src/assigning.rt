@@ -38,7 +38,8 @@ use cc_base::{Fault, NoMemory, Place, Rule, TypeId};
 
 /// Two structs of one type.
 pub(crate) fn are_one_struct(types: &Types, x: PartRef, y: PartRef) -> bool
-    ensures { result ≡ tests.are_one_struct types.now (part_ref_view x.entry) (part_ref_view y.entry) }
+    ensures { result ≡ tests.are_one_struct types.now (part_ref_view x.entry)
+        (part_ref_view y.entry) }
 {
     match (x, y) {
         (PartRef::Place(p), PartRef::Place(q)) => {
@@ -50,7 +51,12 @@ pub(crate) fn are_one_struct(types: &Types, x: PartRef, y: PartRef) -> bool
 
 /// Whether an assignment by this operator takes these operands.
 fn are_updatable(types: &Types, operator: Binary, x: PartRef, y: PartRef) -> bool
-    ensures { result ≡ (tests.are_integers (tests.shape_of types.now (part_ref_view x.entry)) (tests.shape_of types.now (part_ref_view y.entry)) || ((is_pointer_shape (tests.shape_of types.now (part_ref_view x.entry)) && is_integer_shape (tests.shape_of types.now (part_ref_view y.entry))) && tests.is_moving types.now operator (tests.shape_of types.now (part_ref_view x.entry)) (tests.shape_of types.now (part_ref_view y.entry)))) }
+    ensures { result ≡ (tests.are_integers (tests.shape_of types.now (part_ref_view x.entry))
+        (tests.shape_of types.now (part_ref_view y.entry)) ||
+        ((is_pointer_shape (tests.shape_of types.now (part_ref_view x.entry)) && is_integer_shape
+        (tests.shape_of types.now (part_ref_view y.entry))) && tests.is_moving types.now operator
+        (tests.shape_of types.now (part_ref_view x.entry))
+        (tests.shape_of types.now (part_ref_view y.entry)))) }
 {
     let left = shape_of(types, x);
     let right = shape_of(types, y);
@@ -62,14 +68,16 @@ fn are_updatable(types: &Types, operator: Binary, x: PartRef, y: PartRef) -> boo
 /// Whether a compound assignment takes these operands.
 fn is_updatable(types: &Types, operator: Assignment, x: PartRef, y: PartRef) -> bool
     requires { rules.is_compound operator ≡ true }
-    ensures { result ≡ tests.is_assignable types.now operator (part_ref_view x.entry) (part_ref_view y.entry) }
+    ensures { result ≡ tests.is_assignable types.now operator (part_ref_view x.entry)
+        (part_ref_view y.entry) }
 {
     let binary = assigning(operator);
     are_updatable(types, binary, x, y)
 }
 
 fn is_assignable(types: &Types, x: PartRef, y: PartRef) -> bool
-    ensures { result ≡ tests.is_assignable types.now assignment.Assign (part_ref_view x.entry) (part_ref_view y.entry) }
+    ensures { result ≡ tests.is_assignable types.now assignment.Assign (part_ref_view x.entry)
+        (part_ref_view y.entry) }
 {
     let left = shape_of(types, x);
     fits(types, y, left.get()) || are_one_struct(types, x, y)
@@ -77,7 +85,8 @@ fn is_assignable(types: &Types, x: PartRef, y: PartRef) -> bool
 
 /// The rules of `=`.
 fn assign_fault(scope: &Scope, types: &Types, at: Place, x: &Part, y: &Part) -> Option<Fault>
-    ensures { result ≡ first_broken (tests.assign_tests types.now scope.now.scopes assignment.Assign at (part_view x.now) (part_view y.now)) }
+    ensures { result ≡ first_broken (tests.assign_tests types.now scope.now.scopes assignment.Assign
+        at (part_view x.now) (part_view y.now)) }
 {
     if !is_assignable(types, x.as_ref(), y.as_ref()) {
         return Some(refusal(at, Rule::Mismatch));
@@ -98,7 +107,8 @@ fn update_fault(
     e: &TypedExpr,
 ) -> Option<Fault>
     requires { rules.is_compound operator ≡ true }
-    ensures { result ≡ first_broken (tests.assign_tests types.now scope.now.scopes operator at (part_view x.now) (AsValue (typed_expr_view e.now))) }
+    ensures { result ≡ first_broken (tests.assign_tests types.now scope.now.scopes operator at
+        (part_view x.now) (AsValue (typed_expr_view e.now))) }
 {
     if !is_updatable(types, operator, x.as_ref(), PartRef::Value(e)) {
         return Some(refusal(at, Rule::Mismatch));
@@ -132,7 +142,8 @@ fn struct_assigned(
     p: Boxed<TypedPlace>,
     q: Boxed<TypedPlace>,
 ) -> Result<Part, NoMemory>
-    ensures { IfOk result (λ x. part_view x ≡ AsPlace (typed.StructAssign (typed_place_view p) at (typed_place_view q))) }
+    ensures { IfOk result (λ x. part_view x ≡ AsPlace
+        (typed.StructAssign (typed_place_view p) at (typed_place_view q))) }
 {
     Ok(Part::Place(Boxed::new(scope.alloc(), TypedPlace::StructAssign(p, at, q))?))
 }
@@ -145,7 +156,8 @@ fn value_assigned(
     p: Boxed<TypedPlace>,
     e: Boxed<TypedExpr>,
 ) -> Result<Part, NoMemory>
-    ensures { IfOk result (λ x. part_view x ≡ AsValue (typed.Assign (typed_place_view p) at (typed_expr_view e))) }
+    ensures { IfOk result (λ x. part_view x ≡ AsValue
+        (typed.Assign (typed_place_view p) at (typed_expr_view e))) }
 {
     Ok(Part::Value(Boxed::new(scope.alloc(), TypedExpr::Assign(p, at, e))?))
 }
@@ -158,7 +170,9 @@ fn converted_assigned(
     p: Boxed<TypedPlace>,
     e: Boxed<TypedExpr>,
 ) -> Result<Part, NoMemory>
-    ensures { IfOk result (λ x. part_view x ≡ AsValue (typed.Assign (typed_place_view p) at (assignments.converted_to types.now at (place_type (typed_place_view p)) (typed_expr_view e)))) }
+    ensures { IfOk result (λ x. part_view x ≡ AsValue (typed.Assign (typed_place_view p) at
+        (assignments.converted_to types.now at (place_type (typed_place_view p))
+        (typed_expr_view e)))) }
 {
     let e = converted_to(scope, types, at, p.get().ty(), e)?;
     value_assigned(scope, at, p, e)
@@ -172,7 +186,8 @@ fn assigned(
     p: Boxed<TypedPlace>,
     y: Part,
 ) -> Result<Part, NoMemory>
-    ensures { IfOk result (λ x. part_view x ≡ assignments.assigned types.now at (typed_place_view p) (part_view y)) }
+    ensures { IfOk result (λ x. part_view x ≡ assignments.assigned types.now at (typed_place_view p)
+        (part_view y)) }
 {
     match y {
         Part::Place(q) => struct_assigned(scope, at, p, q),
@@ -189,7 +204,8 @@ fn count_moved(
     t: TypeId,
     y: &Part,
 ) -> Result<TypeId, Fault>
-    ensures { Answers (λ t. t) (assignments.moved at t (part_view y.now) (known types.now scope.old)) result (known types.now scope.new) }
+    ensures { Answers (λ t. t) (assignments.moved at t (part_view y.now)
+        (known types.now scope.old)) result (known types.now scope.new) }
 {
     match y {
         Part::Place(_) => count_cells(scope, types, at, t),
@@ -206,7 +222,8 @@ fn assign_place(
     p: Boxed<TypedPlace>,
     y: Part,
 ) -> Result<Part, Fault>
-    ensures { Answers part_view (assignments.assign_part at (AsPlace (typed_place_view p)) (part_view y) (known types.now scope.old)) result (known types.now scope.new) }
+    ensures { Answers part_view (assignments.assign_part at (AsPlace (typed_place_view p))
+        (part_view y) (known types.now scope.old)) result (known types.now scope.new) }
 {
     count_moved(scope, types, at, p.get().ty(), &y)?;
     Ok(assigned(scope, types, at, p, y)?)
@@ -214,7 +231,8 @@ fn assign_place(
 
 #[tactic(auto, unfolding(c_typing::specs::Assignments::assign_part))]
 fn assign_part(scope: &mut Scope, types: &Types, at: Place, x: Part, y: Part) -> Result<Part, Fault>
-    ensures { Answers part_view (assignments.assign_part at (part_view x) (part_view y) (known types.now scope.old)) result (known types.now scope.new) }
+    ensures { Answers part_view (assignments.assign_part at (part_view x) (part_view y)
+        (known types.now scope.old)) result (known types.now scope.new) }
 {
     match x {
         Part::Place(p) => assign_place(scope, types, at, p, y),
@@ -231,7 +249,10 @@ fn allowed_assign(
     y: Operand,
     held: u32,
 ) -> Result<Operand, Fault>
-    ensures { Answers operand_view (next (assignments.assign_part at (part_view x.part) (part_view y.part) (known types.old scope.old)) (λ made. pure (record { part = made; place = x.place; held = held }))) result (known types.new scope.new) }
+    ensures { Answers operand_view (next (assignments.assign_part at (part_view x.part)
+        (part_view y.part) (known types.old scope.old))
+        (λ made. pure (record { part = made; place = x.place; held = held }))) result
+        (known types.new scope.new) }
 {
     let place = x.place;
     let part = assign_part(scope, types, at, x.part, y.part)?;
@@ -247,7 +268,8 @@ fn assign_given(
     at: Place,
     y: Operand,
 ) -> Result<Operand, Fault>
-    ensures { Answers operand_view (assignments.assign_given (operand_view x) at (operand_view y) (known types.old scope.old)) result (known types.new scope.new) }
+    ensures { Answers operand_view (assignments.assign_given (operand_view x) at (operand_view y)
+        (known types.old scope.old)) result (known types.new scope.new) }
 {
     let held = held_with_two(x.held, y.held);
     let fault = assign_fault(scope, types, at, &x.part, &y.part);
@@ -266,7 +288,8 @@ pub fn assign(
     at: Place,
     y: Operand,
 ) -> Result<Operand, Fault>
-    ensures { Answers operand_view (assignments.assign (operand_view x) at (operand_view y) (known types.old scope.old)) result (known types.new scope.new) }
+    ensures { Answers operand_view (assignments.assign (operand_view x) at (operand_view y)
+        (known types.old scope.old)) result (known types.new scope.new) }
 {
     let Operand { part, place, held } = y;
     let part = given(scope, types, part_type(&x.part), place, part)?;
@@ -284,7 +307,8 @@ fn updated_as(
     e: Boxed<TypedExpr>,
     t: TypeId,
 ) -> Result<Boxed<TypedExpr>, NoMemory>
-    ensures { IfOk result (λ made. typed_expr_view made ≡ typed.AssignWith operator (typed_place_view p) at (typed_expr_view e) t) }
+    ensures { IfOk result (λ made. typed_expr_view made
+        ≡ typed.AssignWith operator (typed_place_view p) at (typed_expr_view e) t) }
 {
     Ok(Boxed::new(scope.alloc(), TypedExpr::AssignWith(operator, p, at, e, t))?)
 }
@@ -298,7 +322,9 @@ fn updated_integer(
     e: Boxed<TypedExpr>,
     kinds: (Kind, Kind),
 ) -> Result<Boxed<TypedExpr>, NoMemory>
-    ensures { IfOk result (λ made. typed_expr_view made ≡ assignments.updated operator at (typed_place_view p) (typed_expr_view e) (Some (kind_view kinds.0)) (Some (kind_view kinds.1))) }
+    ensures { IfOk result (λ made. typed_expr_view made ≡ assignments.updated operator at
+        (typed_place_view p) (typed_expr_view e) (Some (kind_view kinds.0))
+        (Some (kind_view kinds.1))) }
 {
     let (left, right) = kinds;
     let binary = assigning(operator);
@@ -316,7 +342,9 @@ fn updated(
     p: Boxed<TypedPlace>,
     e: Boxed<TypedExpr>,
 ) -> Result<Boxed<TypedExpr>, NoMemory>
-    ensures { IfOk result (λ made. typed_expr_view made ≡ assignments.updated operator at (typed_place_view p) (typed_expr_view e) (integer_at types.now (place_type (typed_place_view p))) (integer_at types.now (type_of (typed_expr_view e)))) }
+    ensures { IfOk result (λ made. typed_expr_view made ≡ assignments.updated operator at
+        (typed_place_view p) (typed_expr_view e) (integer_at types.now
+        (place_type (typed_place_view p))) (integer_at types.now (type_of (typed_expr_view e)))) }
 {
     let t = p.get().ty();
     match (integer_at(types, t), integer_at(types, e.get().ty())) {
@@ -334,7 +362,9 @@ fn update_part(
     x: Part,
     e: Boxed<TypedExpr>,
 ) -> Result<Boxed<TypedExpr>, Fault>
-    ensures { Answers (λ made. AsValue (typed_expr_view made)) (assignments.update_part operator at (part_view x) (typed_expr_view e) (known types.now scope.now)) result (known types.now scope.now) }
+    ensures { Answers (λ made. AsValue (typed_expr_view made))
+        (assignments.update_part operator at (part_view x) (typed_expr_view e)
+        (known types.now scope.now)) result (known types.now scope.now) }
 {
     match x {
         Part::Place(p) => Ok(updated(scope, types, operator, at, p, e)?),
@@ -353,7 +383,8 @@ pub fn update_by(
     v: Value,
 ) -> Result<Operand, Fault>
     requires { rules.is_compound operator ≡ true }
-    ensures { Answers operand_view (assignments.update_by operator (operand_view x) at (value_view v) (known types.old scope.old)) result (known types.new scope.new) }
+    ensures { Answers operand_view (assignments.update_by operator (operand_view x) at
+        (value_view v) (known types.old scope.old)) result (known types.new scope.new) }
 {
     let Operand { part, place, held } = x;
     let Value {

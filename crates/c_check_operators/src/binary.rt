@@ -43,7 +43,8 @@ fn index_fault(
     a: &TypedExpr,
     b: &TypedExpr,
 ) -> Option<Fault>
-    ensures { result ≡ first_broken (tests.index_tests types.now scope.now.scopes at (AsValue (typed_expr_view a.now)) (AsValue (typed_expr_view b.now))) }
+    ensures { result ≡ first_broken (tests.index_tests types.now scope.now.scopes at
+        (AsValue (typed_expr_view a.now)) (AsValue (typed_expr_view b.now))) }
 {
     let left = shape_at(types, a.ty());
     let right = shape_at(types, b.ty());
@@ -66,7 +67,8 @@ fn element_on(
     b: Boxed<TypedExpr>,
     t: TypeId,
 ) -> Result<Part, NoMemory>
-    ensures { IfOk result (λ x. part_view x ≡ AsPlace (typed.Element side (typed_expr_view a) at (typed_expr_view b) t)) }
+    ensures { IfOk result (λ x. part_view x ≡ AsPlace
+        (typed.Element side (typed_expr_view a) at (typed_expr_view b) t)) }
 {
     Ok(Part::Place(Boxed::new(scope.alloc(), TypedPlace::Element(side, a, at, b, t))?))
 }
@@ -79,7 +81,9 @@ fn element(
     at: Place,
     b: Boxed<TypedExpr>,
 ) -> Result<Part, NoMemory>
-    ensures { IfOk result (λ x. part_view x ≡ operations.element (typed_expr_view a) at (typed_expr_view b) (pointee_at types.now (type_of (typed_expr_view a))) (pointee_at types.now (type_of (typed_expr_view b)))) }
+    ensures { IfOk result (λ x. part_view x ≡ operations.element (typed_expr_view a) at
+        (typed_expr_view b) (pointee_at types.now (type_of (typed_expr_view a)))
+        (pointee_at types.now (type_of (typed_expr_view b)))) }
 {
     match (
         pointee_at(types, a.get().ty()),
@@ -100,7 +104,8 @@ pub fn index(
     at: Place,
     b: Value,
 ) -> Result<Operand, Fault>
-    ensures { Answers operand_view (operations.index (value_view a) at (value_view b) (known types.old scope.old)) result (known types.new scope.new) }
+    ensures { Answers operand_view (operations.index (value_view a) at (value_view b)
+        (known types.old scope.old)) result (known types.new scope.new) }
 {
     let Value {
         expr: left,
@@ -128,7 +133,8 @@ fn arithmetic_of(
     b: Boxed<TypedExpr>,
     t: TypeId,
 ) -> Result<Boxed<TypedExpr>, NoMemory>
-    ensures { IfOk result (λ made. typed_expr_view made ≡ typed.Arithmetic operator (typed_expr_view a) at (typed_expr_view b) t) }
+    ensures { IfOk result (λ made. typed_expr_view made
+        ≡ typed.Arithmetic operator (typed_expr_view a) at (typed_expr_view b) t) }
 {
     Ok(Boxed::new(scope.alloc(), TypedExpr::Arithmetic(operator, a, at, b, t))?)
 }
@@ -142,7 +148,8 @@ fn arithmetic(
     b: Boxed<TypedExpr>,
     kinds: (Kind, Kind),
 ) -> Result<Boxed<TypedExpr>, NoMemory>
-    ensures { IfOk result (λ made. typed_expr_view made ≡ operations.arithmetic operator (typed_expr_view a) at (typed_expr_view b) (kind_view kinds.0) (kind_view kinds.1)) }
+    ensures { IfOk result (λ made. typed_expr_view made ≡ operations.arithmetic operator
+        (typed_expr_view a) at (typed_expr_view b) (kind_view kinds.0) (kind_view kinds.1)) }
 {
     let (left, right) = kinds;
     let a = to_integer(scope, at, left_kind(operator, left, right).ty(), a)?;
@@ -176,7 +183,8 @@ fn comparison(
     at: Place,
     b: Boxed<TypedExpr>,
 ) -> Result<Boxed<TypedExpr>, NoMemory>
-    ensures { IfOk result (λ made. typed_expr_view made ≡ typed.Compared operator (typed_expr_view a) at (typed_expr_view b) operations.int_type) }
+    ensures { IfOk result (λ made. typed_expr_view made ≡ typed.Compared operator
+        (typed_expr_view a) at (typed_expr_view b) operations.int_type) }
 {
     Ok(Boxed::new(scope.alloc(), TypedExpr::Compared(operator, a, at, b, INT))?)
 }
@@ -189,7 +197,9 @@ fn compared_with_null(
     at: Place,
     b: Boxed<TypedExpr>,
 ) -> Result<Boxed<TypedExpr>, NoMemory>
-    ensures { IfOk result (λ made. typed_expr_view made ≡ typed.Compared operator (typed_expr_view a) at (rules.null_of at (type_of (typed_expr_view a)) (typed_expr_view b)) operations.int_type) }
+    ensures { IfOk result (λ made. typed_expr_view made ≡ typed.Compared operator
+        (typed_expr_view a) at (rules.null_of at (type_of (typed_expr_view a)) (typed_expr_view b))
+        operations.int_type) }
 {
     let b = null_of(scope, at, a.get().ty(), b)?;
     comparison(scope, operator, a, at, b)
@@ -203,7 +213,9 @@ fn null_compared(
     at: Place,
     b: Boxed<TypedExpr>,
 ) -> Result<Boxed<TypedExpr>, NoMemory>
-    ensures { IfOk result (λ made. typed_expr_view made ≡ typed.Compared operator (rules.null_of at (type_of (typed_expr_view b)) (typed_expr_view a)) at (typed_expr_view b) operations.int_type) }
+    ensures { IfOk result (λ made. typed_expr_view made ≡ typed.Compared operator
+        (rules.null_of at (type_of (typed_expr_view b)) (typed_expr_view a)) at
+        (typed_expr_view b) operations.int_type) }
 {
     let a = null_of(scope, at, b.get().ty(), a)?;
     comparison(scope, operator, a, at, b)
@@ -218,7 +230,8 @@ fn equated(
     at: Place,
     b: Boxed<TypedExpr>,
 ) -> Result<Boxed<TypedExpr>, NoMemory>
-    ensures { IfOk result (λ made. typed_expr_view made ≡ operations.equated (meeting_view how) operator (typed_expr_view a) at (typed_expr_view b)) }
+    ensures { IfOk result (λ made. typed_expr_view made ≡ operations.equated
+        (meeting_view how) operator (typed_expr_view a) at (typed_expr_view b)) }
 {
     match how {
         Meeting::RightIsNull(_) => compared_with_null(scope, operator, a, at, b),
@@ -236,7 +249,8 @@ fn compared(
     at: Place,
     b: Boxed<TypedExpr>,
 ) -> Result<Boxed<TypedExpr>, NoMemory>
-    ensures { IfOk result (λ made. typed_expr_view made ≡ operations.compared types.now operator (typed_expr_view a) at (typed_expr_view b)) }
+    ensures { IfOk result (λ made. typed_expr_view made ≡ operations.compared types.now operator
+        (typed_expr_view a) at (typed_expr_view b)) }
 {
     if is_order(operator) {
         return comparison(scope, operator, a, at, b);
@@ -256,7 +270,8 @@ fn moved(
     b: Boxed<TypedExpr>,
     t: TypeId,
 ) -> Result<Boxed<TypedExpr>, NoMemory>
-    ensures { IfOk result (λ made. typed_expr_view made ≡ typed.Moved operator side (typed_expr_view a) at (typed_expr_view b) t) }
+    ensures { IfOk result (λ made. typed_expr_view made
+        ≡ typed.Moved operator side (typed_expr_view a) at (typed_expr_view b) t) }
 {
     Ok(Boxed::new(scope.alloc(), TypedExpr::Moved(operator, side, a, at, b, t))?)
 }
@@ -268,7 +283,8 @@ fn subtracted(
     at: Place,
     b: Boxed<TypedExpr>,
 ) -> Result<Boxed<TypedExpr>, NoMemory>
-    ensures { IfOk result (λ made. typed_expr_view made ≡ typed.Difference (typed_expr_view a) at (typed_expr_view b) operations.long_type) }
+    ensures { IfOk result (λ made. typed_expr_view made
+        ≡ typed.Difference (typed_expr_view a) at (typed_expr_view b) operations.long_type) }
 {
     Ok(Boxed::new(scope.alloc(), TypedExpr::Difference(a, at, b, LONG))?)
 }
@@ -282,7 +298,10 @@ fn pointers(
     at: Place,
     b: Boxed<TypedExpr>,
 ) -> Result<Boxed<TypedExpr>, NoMemory>
-    ensures { IfOk result (λ made. typed_expr_view made ≡ operations.pointers types.now operator (typed_expr_view a) at (typed_expr_view b) (is_pointer_shape (shape_at types.now (type_of (typed_expr_view a)))) (is_pointer_shape (shape_at types.now (type_of (typed_expr_view b))))) }
+    ensures { IfOk result (λ made. typed_expr_view made ≡ operations.pointers types.now operator
+        (typed_expr_view a) at (typed_expr_view b) (is_pointer_shape
+        (shape_at types.now (type_of (typed_expr_view a))))
+        (is_pointer_shape (shape_at types.now (type_of (typed_expr_view b))))) }
 {
     let left = a.get().ty();
     let right = b.get().ty();
@@ -314,7 +333,8 @@ fn logical(
     at: Place,
     b: Boxed<TypedExpr>,
 ) -> Result<Boxed<TypedExpr>, NoMemory>
-    ensures { IfOk result (λ made. typed_expr_view made ≡ typed.Logical operator (typed_expr_view a) at (typed_expr_view b) operations.int_type) }
+    ensures { IfOk result (λ made. typed_expr_view made ≡ typed.Logical operator
+        (typed_expr_view a) at (typed_expr_view b) operations.int_type) }
 {
     Ok(Boxed::new(scope.alloc(), TypedExpr::Logical(operator, a, at, b, INT))?)
 }
@@ -328,7 +348,8 @@ fn operation(
     at: Place,
     b: Boxed<TypedExpr>,
 ) -> Result<Boxed<TypedExpr>, NoMemory>
-    ensures { IfOk result (λ made. typed_expr_view made ≡ operations.operation types.now operator (typed_expr_view a) at (typed_expr_view b)) }
+    ensures { IfOk result (λ made. typed_expr_view made ≡ operations.operation types.now operator
+        (typed_expr_view a) at (typed_expr_view b)) }
 {
     if is_logical(operator) {
         return logical(scope, operator, a, at, b);
@@ -352,7 +373,8 @@ pub fn infix_of(
     at: Place,
     b: Value,
 ) -> Result<Operand, Fault>
-    ensures { Answers operand_view (operations.infix_of operator (value_view a) at (value_view b) (known types.old scope.old)) result (known types.new scope.new) }
+    ensures { Answers operand_view (operations.infix_of operator (value_view a) at (value_view b)
+        (known types.old scope.old)) result (known types.new scope.new) }
 {
     let Value {
         expr: left,

@@ -43,14 +43,16 @@ fn runtime_named(e: &TypedExpr) -> Option<Runtime>
 
 /// Whether a value becomes one of a type without being told.
 fn fits_type(types: &Types, e: &TypedExpr, t: TypeId) -> bool
-    ensures { result ≡ tests.fits types.now (AsValue (typed_expr_view e.now)) (shape_at types.now t) }
+    ensures { result ≡ tests.fits types.now (AsValue (typed_expr_view e.now))
+        (shape_at types.now t) }
 {
     fits(types, PartRef::Value(e), shape_at(types, t))
 }
 
 /// The rules of the arguments of a function: each fits its parameter.
 fn argument_fault(types: &Types, parameters: &[TypeId], values: &[Value]) -> Option<Fault>
-    ensures { result ≡ first_broken (tests.argument_tests types.now parameters.now (map argument_of (map value_view values.now))) }
+    ensures { result ≡ first_broken (tests.argument_tests types.now parameters.now
+        (map argument_of (map value_view values.now))) }
 {
     let mut wanted = parameters;
     let mut given = values;
@@ -99,7 +101,8 @@ fn runtime_argument_fault(
     parameters: &[RuntimeType],
     values: &[Value],
 ) -> Option<Fault>
-    ensures { result ≡ first_broken (tests.runtime_argument_tests types.now parameters.now (map argument_of (map value_view values.now))) }
+    ensures { result ≡ first_broken (tests.runtime_argument_tests types.now parameters.now
+        (map argument_of (map value_view values.now))) }
 {
     let mut wanted = parameters;
     let mut given = values;
@@ -135,7 +138,9 @@ fn function_fault(
     shape: Option<&TypeShape>,
     values: &[Value],
 ) -> Option<Fault>
-    ensures { result ≡ first_broken (tests.call_tests_of types.now (shape_or_void (option_copied shape.entry)) at (map argument_of (map value_view values.now))) }
+    ensures { result ≡ first_broken (tests.call_tests_of types.now
+        (shape_or_void (option_copied shape.entry)) at
+        (map argument_of (map value_view values.now))) }
 {
     match shape {
         Some(TypeShape::Function(parameters, _)) => {
@@ -152,7 +157,8 @@ fn function_fault(
 /// The rules of a call of a runtime function.
 #[tactic(auto, using(crate::proofs::CallLaws::broken_first, crate::proofs::CallLaws::broken_then, crate::proofs::CallLaws::arguments_length))]
 fn runtime_fault(types: &Types, at: Place, function: Runtime, values: &[Value]) -> Option<Fault>
-    ensures { result ≡ first_broken (tests.runtime_tests types.now (prototype_of function).parameters at (map argument_of (map value_view values.now))) }
+    ensures { result ≡ first_broken (tests.runtime_tests types.now
+        (prototype_of function).parameters at (map argument_of (map value_view values.now))) }
 {
     let parameters = parameters_of(function);
     match runtime_argument_fault(types, parameters, values) {
@@ -163,7 +169,8 @@ fn runtime_fault(types: &Types, at: Place, function: Runtime, values: &[Value]) 
 
 /// The rules of a call.
 fn call_fault(types: &Types, at: Place, f: &TypedExpr, values: &[Value]) -> Option<Fault>
-    ensures { result ≡ first_broken (tests.call_tests types.now at (AsValue (typed_expr_view f.now)) (map argument_of (map value_view values.now))) }
+    ensures { result ≡ first_broken (tests.call_tests types.now at (AsValue (typed_expr_view f.now))
+        (map argument_of (map value_view values.now))) }
 {
     match runtime_named(f) {
         Some(function) => runtime_fault(types, at, function, values),
@@ -190,7 +197,8 @@ fn arguments_held(values: &[Value]) -> u64
 
 /// How many values a call holds at once.
 fn call_held(f: u32, values: &[Value]) -> u64
-    ensures { result ≡ held_with 0 (max f (assignments.arguments_held 1 (map value_view values.now)) ∷ []) }
+    ensures { result ≡ held_with 0 (max f (assignments.arguments_held 1 (map value_view values.now))
+        ∷ []) }
 {
     u64::from(f).max(arguments_held(values)).max(2)
 }
@@ -203,7 +211,8 @@ fn converted_arguments(
     parameters: &[TypeId],
     values: Vec<Value>,
 ) -> Result<Items<TypedExpr>, NoMemory>
-    ensures { IfOk result (λ made. map typed_expr_view made ≡ assignments.converted_arguments types.now parameters.now (map value_view values.items)) }
+    ensures { IfOk result (λ made. map typed_expr_view made
+        ≡ assignments.converted_arguments types.now parameters.now (map value_view values.items)) }
 {
     let mut made = Items::new(scope.alloc());
     let mut wanted = parameters;
@@ -226,7 +235,8 @@ fn runtime_argument(
     wanted: RuntimeType,
     v: Value,
 ) -> Result<Boxed<TypedExpr>, NoMemory>
-    ensures { IfOk result (λ made. typed_expr_view made ≡ assignments.runtime_argument types.now wanted (value_view v)) }
+    ensures { IfOk result (λ made. typed_expr_view made
+        ≡ assignments.runtime_argument types.now wanted (value_view v)) }
 {
     match wanted {
         RuntimeType::Int => converted_to(scope, types, v.place, INT, v.expr),
@@ -243,7 +253,8 @@ fn runtime_arguments(
     parameters: &[RuntimeType],
     values: Vec<Value>,
 ) -> Result<Items<TypedExpr>, NoMemory>
-    ensures { IfOk result (λ made. map typed_expr_view made ≡ assignments.runtime_arguments types.now parameters.now (map value_view values.items)) }
+    ensures { IfOk result (λ made. map typed_expr_view made
+        ≡ assignments.runtime_arguments types.now parameters.now (map value_view values.items)) }
 {
     let mut made = Items::new(scope.alloc());
     let mut wanted = parameters;
@@ -268,7 +279,9 @@ fn runtime_call(
     at: Place,
     arguments: Items<TypedExpr>,
 ) -> Result<Part, NoMemory>
-    ensures { IfOk result (λ x. part_view x ≡ assignments.runtime_call function (typed_expr_view f) at (assignments.arguments_as (map typed_expr_view arguments)) (prototype_of function).result) }
+    ensures { IfOk result (λ x. part_view x ≡ assignments.runtime_call function
+        (typed_expr_view f) at (assignments.arguments_as (map typed_expr_view arguments))
+        (prototype_of function).result) }
 {
     match result_of(function) {
         RuntimeType::Int => Ok(Part::Value(Boxed::new(
@@ -300,7 +313,9 @@ fn called_shape(
     values: Vec<Value>,
     shape: Option<&TypeShape>,
 ) -> Result<Part, NoMemory>
-    ensures { IfOk result (λ x. part_view x ≡ assignments.called_shape types.now (typed_expr_view f) at (map value_view values.items) (shape_or_void (option_copied shape.entry))) }
+    ensures { IfOk result (λ x. part_view x ≡ assignments.called_shape types.now
+        (typed_expr_view f) at (map value_view values.items)
+        (shape_or_void (option_copied shape.entry))) }
 {
     match shape {
         Some(TypeShape::Function(parameters, t)) => {
@@ -319,7 +334,8 @@ fn called(
     at: Place,
     values: Vec<Value>,
 ) -> Result<Part, NoMemory>
-    ensures { IfOk result (λ x. part_view x ≡ assignments.called types.now (typed_expr_view f) at (map value_view values.items) (rules.runtime_named (typed_expr_view f))) }
+    ensures { IfOk result (λ x. part_view x ≡ assignments.called types.now (typed_expr_view f) at
+        (map value_view values.items) (rules.runtime_named (typed_expr_view f))) }
 {
     match runtime_named(f.get()) {
         Some(function) => {
@@ -342,7 +358,8 @@ pub fn call(
     at: Place,
     values: Vec<Value>,
 ) -> Result<Operand, Fault>
-    ensures { Answers operand_view (assignments.call (value_view f) at (map value_view values.items) (known types.now scope.now)) result (known types.now scope.now) }
+    ensures { Answers operand_view (assignments.call (value_view f) at (map value_view values.items)
+        (known types.now scope.now)) result (known types.now scope.now) }
 {
     if let Some(fault) = call_fault(types, at, f.expr.get(), &values) {
         return Err(fault);

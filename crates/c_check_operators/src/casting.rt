@@ -60,7 +60,8 @@ fn part_expr(scope: &Scope, x: Part) -> Result<Boxed<TypedExpr>, NoMemory>
 
 /// The conversion that a cast makes; one to `void` where there is no other.
 fn cast_which(types: &Types, is_allocation: bool, e: &TypedExpr, t: TypeId) -> Conversion
-    ensures { result ≡ assignments.cast_by types.now is_allocation (typed_expr_view e.now) t (is_void_shape (shape_at types.now t)) }
+    ensures { result ≡ assignments.cast_by types.now is_allocation (typed_expr_view e.now) t
+        (is_void_shape (shape_at types.now t)) }
 {
     if is_void(shape_at(types, t)) {
         return Conversion::ToVoid;
@@ -89,7 +90,8 @@ fn cast_by(
     to: Boxed<TypedTypeName>,
     e: Boxed<TypedExpr>,
 ) -> Result<Boxed<TypedExpr>, NoMemory>
-    ensures { IfOk result (λ made. typed_expr_view made ≡ typed.Cast which at (typed_type_name_view to) (typed_expr_view e)) }
+    ensures { IfOk result (λ made. typed_expr_view made
+        ≡ typed.Cast which at (typed_type_name_view to) (typed_expr_view e)) }
 {
     Ok(Boxed::new(scope.alloc(), TypedExpr::Cast(which, at, to, e))?)
 }
@@ -102,7 +104,8 @@ fn cast_part(
     to: Boxed<TypedTypeName>,
     x: Part,
 ) -> Result<Boxed<TypedExpr>, NoMemory>
-    ensures { IfOk result (λ e. typed_expr_view e ≡ assignments.cast_part types.now at (typed_type_name_view to) (part_view x)) }
+    ensures { IfOk result (λ e. typed_expr_view e ≡ assignments.cast_part types.now at
+        (typed_type_name_view to) (part_view x)) }
 {
     let taken = is_allocation(&x);
     let e = part_expr(scope, x)?;
@@ -119,7 +122,8 @@ fn cast_given(
     to: Boxed<TypedTypeName>,
     x: Operand,
 ) -> Result<Operand, Fault>
-    ensures { Answers operand_view (assignments.cast_given at (typed_type_name_view to) (operand_view x) (known types.now scope.now)) result (known types.now scope.now) }
+    ensures { Answers operand_view (assignments.cast_given at (typed_type_name_view to)
+        (operand_view x) (known types.now scope.now)) result (known types.now scope.now) }
 {
     let fault = cast_fault(types, at, x.part.as_ref(), type_named(to.get()));
     let allowed = allowed(fault, at, x)?;
@@ -140,7 +144,8 @@ pub fn cast(
     to: Boxed<TypedTypeName>,
     x: Operand,
 ) -> Result<Operand, Fault>
-    ensures { Answers operand_view (assignments.cast at (typed_type_name_view to) (operand_view x) (known types.old scope.old)) result (known types.new scope.new) }
+    ensures { Answers operand_view (assignments.cast at (typed_type_name_view to) (operand_view x)
+        (known types.old scope.old)) result (known types.new scope.new) }
 {
     let Operand { part, place, held } = x;
     let part = given(scope, types, type_named(to.get()), place, part)?;
@@ -167,7 +172,9 @@ fn named_size(
     paren: Place,
     name: Boxed<TypedTypeName>,
 ) -> Result<Boxed<TypedExpr>, NoMemory>
-    ensures { IfOk result (λ e. typed_expr_view e ≡ typed.SizeOfType at paren (typed_type_name_view name) (size_of types.now (named_type (typed_type_name_view name))) operations.size_type) }
+    ensures { IfOk result (λ e. typed_expr_view e ≡ typed.SizeOfType at paren
+        (typed_type_name_view name) (size_of types.now (named_type (typed_type_name_view name)))
+        operations.size_type) }
 {
     let size = size_at(types, type_named(name.get()));
     Ok(Boxed::new(
@@ -185,7 +192,8 @@ pub fn size_of_type(
     paren: Place,
     name: Boxed<TypedTypeName>,
 ) -> Result<Operand, Fault>
-    ensures { Answers operand_view (assignments.size_of_type at paren (typed_type_name_view name) (known types.now scope.now)) result (known types.now scope.now) }
+    ensures { Answers operand_view (assignments.size_of_type at paren (typed_type_name_view name)
+        (known types.now scope.now)) result (known types.now scope.now) }
 {
     if let Some(fault) = type_size_fault(scope, types, at, type_named(name.get())) {
         return Err(fault);

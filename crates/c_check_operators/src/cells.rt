@@ -25,7 +25,8 @@ fn pointers_in(types: &Types, t: TypeId) -> u64
 /// The pointers that one assignment of a type moves are counted; the limit is named at the place.
 #[tactic(auto, unfolding(c_typing::specs::Cells::count_cells))]
 pub fn count_cells(scope: &mut Scope, types: &Types, at: Place, t: TypeId) -> Result<TypeId, Fault>
-    ensures { Answers (λ t. t) (count_cells at t (known types.now scope.old)) result (known types.now scope.new) }
+    ensures { Answers (λ t. t) (count_cells at t (known types.now scope.old)) result
+        (known types.now scope.new) }
 {
     if !scope.add_cells(pointers_in(types, t)) {
         return Err(Fault::TooLarge {

@@ -39,7 +39,13 @@ const VOID: TypeId = TypeId(0);
 
 /// Whether a `?:` accepts these sides.
 fn are_alike(types: &Types, x: PartRef, y: PartRef) -> bool
-    ensures { result ≡ (tests.are_integers (tests.shape_of types.now (part_ref_view x.entry)) (tests.shape_of types.now (part_ref_view y.entry)) || ((is_void_shape (tests.shape_of types.now (part_ref_view x.entry)) && is_void_shape (tests.shape_of types.now (part_ref_view y.entry))) || (tests.are_one_struct types.now (part_ref_view x.entry) (part_ref_view y.entry) || tests.meet types.now (part_ref_view x.entry) (part_ref_view y.entry)))) }
+    ensures { result ≡ (tests.are_integers (tests.shape_of types.now (part_ref_view x.entry))
+        (tests.shape_of types.now (part_ref_view y.entry)) ||
+        ((is_void_shape (tests.shape_of types.now (part_ref_view x.entry)) && is_void_shape
+        (tests.shape_of types.now (part_ref_view y.entry))) ||
+        (tests.are_one_struct types.now (part_ref_view x.entry)
+        (part_ref_view y.entry) || tests.meet types.now (part_ref_view x.entry)
+        (part_ref_view y.entry)))) }
 {
     let left = shape_of(types, x);
     let right = shape_of(types, y);
@@ -51,7 +57,8 @@ fn are_alike(types: &Types, x: PartRef, y: PartRef) -> bool
 
 /// The rules of `?:`.
 fn choice_fault(types: &Types, at: Place, c: &TypedExpr, x: PartRef, y: PartRef) -> Option<Fault>
-    ensures { result ≡ first_broken (tests.choice_tests types.now at (AsValue (typed_expr_view c.now)) (part_ref_view x.entry) (part_ref_view y.entry)) }
+    ensures { result ≡ first_broken (tests.choice_tests types.now at
+        (AsValue (typed_expr_view c.now)) (part_ref_view x.entry) (part_ref_view y.entry)) }
 {
     if !is_scalar(shape_at(types, c.ty())) {
         return Some(refusal(at, Rule::Mismatch));
@@ -72,7 +79,8 @@ fn into_choice(
     t: TypeId,
     e: Boxed<TypedExpr>,
 ) -> Result<Boxed<TypedExpr>, NoMemory>
-    ensures { IfOk result (λ made. typed_expr_view made ≡ rules.into_choice types.now at t (typed_expr_view e)) }
+    ensures { IfOk result (λ made. typed_expr_view made
+        ≡ rules.into_choice types.now at t (typed_expr_view e)) }
 {
     let which = if is_null_constant(types, e.get()) {
         Conversion::NullToPointer
@@ -102,7 +110,8 @@ fn pointer_conditional(
     b: Boxed<TypedExpr>,
     made: Pointing,
 ) -> Result<Boxed<TypedExpr>, NoMemory>
-    ensures { IfOk result (λ e. typed_expr_view e ≡ typed.PointerConditional (typed_expr_view condition) at (typed_expr_view a) (typed_expr_view b) made.node made.ty) }
+    ensures { IfOk result (λ e. typed_expr_view e ≡ typed.PointerConditional
+        (typed_expr_view condition) at (typed_expr_view a) (typed_expr_view b) made.node made.ty) }
 {
     Ok(Boxed::new(
         scope.alloc(),
@@ -119,7 +128,9 @@ fn both_into_choice(
     a: Boxed<TypedExpr>,
     b: Boxed<TypedExpr>,
 ) -> Result<(Boxed<TypedExpr>, Boxed<TypedExpr>), NoMemory>
-    ensures { IfOk result (λ pair. (typed_expr_view pair.0 ≡ rules.into_choice types.now at t (typed_expr_view a)) × (typed_expr_view pair.1 ≡ rules.into_choice types.now at t (typed_expr_view b))) }
+    ensures { IfOk result (λ pair. (typed_expr_view pair.0
+        ≡ rules.into_choice types.now at t (typed_expr_view a))
+        × (typed_expr_view pair.1 ≡ rules.into_choice types.now at t (typed_expr_view b))) }
 {
     let a = into_choice(scope, types, at, t, a)?;
     let b = into_choice(scope, types, at, t, b)?;
@@ -133,7 +144,10 @@ fn chosen_pointer(
     x: Chosen,
     made: Pointing,
 ) -> Result<Boxed<TypedExpr>, NoMemory>
-    ensures { IfOk result (λ e. typed_expr_view e ≡ typed.PointerConditional (typed_expr_view x.condition) x.at (rules.into_choice types.now x.at made.ty (typed_expr_view x.a)) (rules.into_choice types.now x.at made.ty (typed_expr_view x.b)) made.node made.ty) }
+    ensures { IfOk result (λ e. typed_expr_view e ≡ typed.PointerConditional
+        (typed_expr_view x.condition) x.at (rules.into_choice types.now x.at made.ty
+        (typed_expr_view x.a)) (rules.into_choice types.now x.at made.ty (typed_expr_view x.b))
+        made.node made.ty) }
 {
     let (a, b) = both_into_choice(scope, types, x.at, made.ty, x.a, x.b)?;
     pointer_conditional(scope, x.condition, x.at, a, b, made)
@@ -147,7 +161,9 @@ fn choice_to(
     x: Chosen,
     to: TypeId,
 ) -> Result<Boxed<TypedExpr>, Fault>
-    ensures { Answers (λ e. AsValue (typed_expr_view e)) (assignments.pointer_choice (typed_expr_view x.condition) x.begin x.at (typed_expr_view x.a) (typed_expr_view x.b) (Some to) (known types.old scope.old)) result (known types.new scope.new) }
+    ensures { Answers (λ e. AsValue (typed_expr_view e)) (assignments.pointer_choice
+        (typed_expr_view x.condition) x.begin x.at (typed_expr_view x.a) (typed_expr_view x.b)
+        (Some to) (known types.old scope.old)) result (known types.new scope.new) }
 {
     let made = new_pointer(scope, types, x.begin, to)?;
     Ok(chosen_pointer(scope, types, x, made)?)
@@ -161,7 +177,9 @@ fn pointer_choice(
     x: Chosen,
     to: Option<TypeId>,
 ) -> Result<Boxed<TypedExpr>, Fault>
-    ensures { Answers (λ e. AsValue (typed_expr_view e)) (assignments.pointer_choice (typed_expr_view x.condition) x.begin x.at (typed_expr_view x.a) (typed_expr_view x.b) to (known types.old scope.old)) result (known types.new scope.new) }
+    ensures { Answers (λ e. AsValue (typed_expr_view e)) (assignments.pointer_choice
+        (typed_expr_view x.condition) x.begin x.at (typed_expr_view x.a) (typed_expr_view x.b) to
+        (known types.old scope.old)) result (known types.new scope.new) }
 {
     match to {
         Some(to) => choice_to(scope, types, x, to),
@@ -179,7 +197,8 @@ fn conditional(
     b: Boxed<TypedExpr>,
     t: TypeId,
 ) -> Result<Boxed<TypedExpr>, NoMemory>
-    ensures { IfOk result (λ e. typed_expr_view e ≡ typed.Conditional (typed_expr_view condition) at (typed_expr_view a) (typed_expr_view b) t) }
+    ensures { IfOk result (λ e. typed_expr_view e ≡ typed.Conditional (typed_expr_view condition) at
+        (typed_expr_view a) (typed_expr_view b) t) }
 {
     Ok(Boxed::new(
         scope.alloc(),
@@ -189,7 +208,8 @@ fn conditional(
 
 /// `?:` of two without a value.
 fn void_choice(scope: &Scope, x: Chosen) -> Result<Boxed<TypedExpr>, NoMemory>
-    ensures { IfOk result (λ e. typed_expr_view e ≡ typed.Conditional (typed_expr_view x.condition) x.at (typed_expr_view x.a) (typed_expr_view x.b) void_type) }
+    ensures { IfOk result (λ e. typed_expr_view e ≡ typed.Conditional
+        (typed_expr_view x.condition) x.at (typed_expr_view x.a) (typed_expr_view x.b) void_type) }
 {
     let Chosen {
         condition,
@@ -208,7 +228,11 @@ fn choice_of_pointers(
     types: &mut Types,
     x: Chosen,
 ) -> Result<Boxed<TypedExpr>, Fault>
-    ensures { Answers (λ e. AsValue (typed_expr_view e)) (assignments.choice_of_pointers (typed_expr_view x.condition) x.begin x.at (typed_expr_view x.a) (typed_expr_view x.b) (is_void_shape (shape_at types.old (type_of (typed_expr_view x.a))) && is_void_shape (shape_at types.old (type_of (typed_expr_view x.b)))) (known types.old scope.old)) result (known types.new scope.new) }
+    ensures { Answers (λ e. AsValue (typed_expr_view e)) (assignments.choice_of_pointers
+        (typed_expr_view x.condition) x.begin x.at (typed_expr_view x.a) (typed_expr_view x.b)
+        (is_void_shape (shape_at types.old (type_of (typed_expr_view x.a))) && is_void_shape
+        (shape_at types.old (type_of (typed_expr_view x.b)))) (known types.old scope.old)) result
+        (known types.new scope.new) }
 {
     if is_void(shape_at(types, x.a.get().ty())) && is_void(shape_at(types, x.b.get().ty())) {
         return Ok(void_choice(scope, x)?);
@@ -225,7 +249,8 @@ fn both_to_integer(
     a: Boxed<TypedExpr>,
     b: Boxed<TypedExpr>,
 ) -> Result<(Boxed<TypedExpr>, Boxed<TypedExpr>), NoMemory>
-    ensures { IfOk result (λ pair. (typed_expr_view pair.0 ≡ to_integer at t (typed_expr_view a)) × (typed_expr_view pair.1 ≡ to_integer at t (typed_expr_view b))) }
+    ensures { IfOk result (λ pair. (typed_expr_view pair.0 ≡ to_integer at t (typed_expr_view a))
+        × (typed_expr_view pair.1 ≡ to_integer at t (typed_expr_view b))) }
 {
     let a = to_integer(scope, at, t, a)?;
     let b = to_integer(scope, at, t, b)?;
@@ -239,7 +264,11 @@ fn integer_choice(
     left: Kind,
     right: Kind,
 ) -> Result<Boxed<TypedExpr>, NoMemory>
-    ensures { IfOk result (λ e. typed_expr_view e ≡ typed.Conditional (typed_expr_view x.condition) x.at (to_integer x.at (integer_type (common (kind_view left) (kind_view right))) (typed_expr_view x.a)) (to_integer x.at (integer_type (common (kind_view left) (kind_view right))) (typed_expr_view x.b)) (integer_type (common (kind_view left) (kind_view right)))) }
+    ensures { IfOk result (λ e. typed_expr_view e ≡ typed.Conditional
+        (typed_expr_view x.condition) x.at (to_integer x.at
+        (integer_type (common (kind_view left) (kind_view right))) (typed_expr_view x.a))
+        (to_integer x.at (integer_type (common (kind_view left) (kind_view right)))
+        (typed_expr_view x.b)) (integer_type (common (kind_view left) (kind_view right)))) }
 {
     let t = left.common(right).ty();
     let (a, b) = both_to_integer(scope, x.at, t, x.a, x.b)?;
@@ -253,7 +282,11 @@ fn choice_of_values(
     types: &mut Types,
     x: Chosen,
 ) -> Result<Boxed<TypedExpr>, Fault>
-    ensures { Answers (λ e. AsValue (typed_expr_view e)) (assignments.choice_of_values (typed_expr_view x.condition) x.begin x.at (typed_expr_view x.a) (typed_expr_view x.b) (integer_at types.old (type_of (typed_expr_view x.a))) (integer_at types.old (type_of (typed_expr_view x.b))) (known types.old scope.old)) result (known types.new scope.new) }
+    ensures { Answers (λ e. AsValue (typed_expr_view e)) (assignments.choice_of_values
+        (typed_expr_view x.condition) x.begin x.at (typed_expr_view x.a) (typed_expr_view x.b)
+        (integer_at types.old (type_of (typed_expr_view x.a)))
+        (integer_at types.old (type_of (typed_expr_view x.b))) (known types.old scope.old)) result
+        (known types.new scope.new) }
 {
     match (
         integer_at(types, x.a.get().ty()),
@@ -273,7 +306,8 @@ fn struct_choice(
     p: Boxed<TypedPlace>,
     q: Boxed<TypedPlace>,
 ) -> Result<Part, NoMemory>
-    ensures { IfOk result (λ x. part_view x ≡ AsPlace (typed.StructConditional (typed_expr_view condition) at (typed_place_view p) (typed_place_view q))) }
+    ensures { IfOk result (λ x. part_view x ≡ AsPlace (typed.StructConditional
+        (typed_expr_view condition) at (typed_place_view p) (typed_place_view q))) }
 {
     Ok(Part::Place(Boxed::new(
         scope.alloc(),
@@ -301,7 +335,10 @@ fn place_choice(
     p: Boxed<TypedPlace>,
     q: Boxed<TypedPlace>,
 ) -> Result<Part, Fault>
-    ensures { Answers part_view (assignments.choice_of_parts (typed_expr_view condition) places.0 places.1 (AsPlace (typed_place_view p)) (AsPlace (typed_place_view q)) (known types.now scope.now)) result (known types.now scope.now) }
+    ensures { Answers part_view (assignments.choice_of_parts
+        (typed_expr_view condition) places.0 places.1 (AsPlace (typed_place_view p))
+        (AsPlace (typed_place_view q)) (known types.now scope.now)) result
+        (known types.now scope.now) }
 {
     let made = struct_choice(scope, condition, places.1, p, q)?;
     Ok(made)
@@ -317,7 +354,9 @@ fn choice_of_structs(
     p: Boxed<TypedPlace>,
     y: Part,
 ) -> Result<Part, Fault>
-    ensures { Answers part_view (assignments.choice_of_parts (typed_expr_view condition) places.0 places.1 (AsPlace (typed_place_view p)) (part_view y) (known types.now scope.now)) result (known types.now scope.now) }
+    ensures { Answers part_view (assignments.choice_of_parts
+        (typed_expr_view condition) places.0 places.1 (AsPlace (typed_place_view p)) (part_view y)
+        (known types.now scope.now)) result (known types.now scope.now) }
 {
     match y {
         Part::Place(q) => place_choice(scope, types, condition, places, p, q),
@@ -328,7 +367,10 @@ fn choice_of_structs(
 /// `?:` of two values, as a part.
 #[tactic(auto, unfolding(c_typing::specs::Assignments::choice_of_parts))]
 fn value_choice(scope: &mut Scope, types: &mut Types, x: Chosen) -> Result<Part, Fault>
-    ensures { Answers part_view (assignments.choice_of_parts (typed_expr_view x.condition) x.begin x.at (AsValue (typed_expr_view x.a)) (AsValue (typed_expr_view x.b)) (known types.old scope.old)) result (known types.new scope.new) }
+    ensures { Answers part_view (assignments.choice_of_parts
+        (typed_expr_view x.condition) x.begin x.at (AsValue (typed_expr_view x.a))
+        (AsValue (typed_expr_view x.b)) (known types.old scope.old)) result
+        (known types.new scope.new) }
 {
     let made = choice_of_values(scope, types, x)?;
     Ok(Part::Value(made))
@@ -344,7 +386,9 @@ fn choice_with_value(
     a: Boxed<TypedExpr>,
     y: Part,
 ) -> Result<Part, Fault>
-    ensures { Answers part_view (assignments.choice_of_parts (typed_expr_view condition) places.0 places.1 (AsValue (typed_expr_view a)) (part_view y) (known types.old scope.old)) result (known types.new scope.new) }
+    ensures { Answers part_view (assignments.choice_of_parts
+        (typed_expr_view condition) places.0 places.1 (AsValue (typed_expr_view a)) (part_view y)
+        (known types.old scope.old)) result (known types.new scope.new) }
 {
     let (begin, at) = places;
     match y {
@@ -364,7 +408,9 @@ fn choice_with_value(
 
 #[tactic(auto, unfolding(c_typing::specs::Assignments::choice_of_parts))]
 fn choice_of_parts(scope: &mut Scope, types: &mut Types, sides: Sides) -> Result<Part, Fault>
-    ensures { Answers part_view (assignments.choice_of_parts (typed_expr_view sides.condition) sides.begin sides.at (part_view sides.x) (part_view sides.y) (known types.old scope.old)) result (known types.new scope.new) }
+    ensures { Answers part_view (assignments.choice_of_parts
+        (typed_expr_view sides.condition) sides.begin sides.at (part_view sides.x)
+        (part_view sides.y) (known types.old scope.old)) result (known types.new scope.new) }
 {
     let Sides {
         condition,
@@ -387,7 +433,11 @@ fn allowed_choice(
     sides: Sides,
     held: u32,
 ) -> Result<Operand, Fault>
-    ensures { Answers operand_view (next (assignments.choice_of_parts (typed_expr_view sides.condition) sides.begin sides.at (part_view sides.x) (part_view sides.y) (known types.old scope.old)) (λ x. pure (record { part = x; place = sides.begin; held = held }))) result (known types.new scope.new) }
+    ensures { Answers operand_view (next (assignments.choice_of_parts
+        (typed_expr_view sides.condition) sides.begin sides.at (part_view sides.x)
+        (part_view sides.y) (known types.old scope.old))
+        (λ x. pure (record { part = x; place = sides.begin; held = held }))) result
+        (known types.new scope.new) }
 {
     let place = sides.begin;
     let part = choice_of_parts(scope, types, sides)?;
@@ -404,7 +454,8 @@ pub fn choice(
     a: Value,
     b: Value,
 ) -> Result<Operand, Fault>
-    ensures { Answers operand_view (assignments.choice (value_view c) at (value_view a) (value_view b) (known types.old scope.old)) result (known types.new scope.new) }
+    ensures { Answers operand_view (assignments.choice (value_view c) at (value_view a)
+        (value_view b) (known types.old scope.old)) result (known types.new scope.new) }
 {
     let begin = c.place;
     let held = held_with_three(c.held, a.held, b.held);
@@ -428,7 +479,8 @@ pub fn choice(
 /// `,` before a struct.
 #[tactic(auto, using(c_tree::proofs::TypedViewLaws::typed_views))]
 fn before_struct(scope: &Scope, a: Boxed<TypedExpr>, p: Boxed<TypedPlace>) -> Result<Part, NoMemory>
-    ensures { IfOk result (λ x. part_view x ≡ AsPlace (typed.StructComma (typed_expr_view a) (typed_place_view p))) }
+    ensures { IfOk result (λ x. part_view x ≡ AsPlace
+        (typed.StructComma (typed_expr_view a) (typed_place_view p))) }
 {
     Ok(Part::Place(Boxed::new(scope.alloc(), TypedPlace::StructComma(a, p))?))
 }
@@ -436,14 +488,16 @@ fn before_struct(scope: &Scope, a: Boxed<TypedExpr>, p: Boxed<TypedPlace>) -> Re
 /// `,` before a value.
 #[tactic(auto, using(c_tree::proofs::TypedViewLaws::typed_views))]
 fn before_value(scope: &Scope, a: Boxed<TypedExpr>, b: Boxed<TypedExpr>) -> Result<Part, NoMemory>
-    ensures { IfOk result (λ x. part_view x ≡ AsValue (typed.Comma (typed_expr_view a) (typed_expr_view b))) }
+    ensures { IfOk result (λ x. part_view x ≡ AsValue
+        (typed.Comma (typed_expr_view a) (typed_expr_view b))) }
 {
     Ok(Part::Value(Boxed::new(scope.alloc(), TypedExpr::Comma(a, b))?))
 }
 
 /// What `,` makes of a value and what follows it.
 fn comma_part(scope: &Scope, a: Boxed<TypedExpr>, b: Part) -> Result<Part, NoMemory>
-    ensures { IfOk result (λ x. part_view x ≡ assignments.comma_part (typed_expr_view a) (part_view b)) }
+    ensures { IfOk result (λ x. part_view x
+        ≡ assignments.comma_part (typed_expr_view a) (part_view b)) }
 {
     match b {
         Part::Place(p) => before_struct(scope, a, p),
@@ -454,7 +508,8 @@ fn comma_part(scope: &Scope, a: Boxed<TypedExpr>, b: Part) -> Result<Part, NoMem
 /// `,` (C99 6.5.17).
 #[tactic(auto, unfolding(c_typing::specs::Assignments::comma, c_typing::specs::Operations::construct, c_typing::specs::Judging::holding))]
 pub fn comma(scope: &Scope, types: &Types, a: Value, b: Value) -> Result<Operand, Fault>
-    ensures { Answers operand_view (assignments.comma (value_view a) (value_view b) (known types.now scope.now)) result (known types.now scope.now) }
+    ensures { Answers operand_view (assignments.comma (value_view a) (value_view b)
+        (known types.now scope.now)) result (known types.now scope.now) }
 {
     let Value { expr, place, held } = a;
     let Value {

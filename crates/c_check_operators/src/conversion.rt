@@ -48,7 +48,8 @@ pub(crate) fn is_taken_as(types: &Types, t: TypeId, u: TypeId) -> bool
 
 /// The conversion of a pointer to a pointer to a type.
 fn taken(types: &Types, from: Option<&TypeShape>, to: TypeId) -> Option<Conversion>
-    ensures { (n : NodeId) → result ≡ conversions.implicit_between types.now false (shape_or_void (option_copied from.entry)) (Pointer n to) }
+    ensures { (n : NodeId) → result ≡ conversions.implicit_between types.now false
+        (shape_or_void (option_copied from.entry)) (Pointer n to) }
 {
     match from {
         Some(TypeShape::Pointer(_, t)) if is_taken_as(types, *t, to) => {
@@ -65,7 +66,8 @@ pub(crate) fn implicit_between(
     from: Option<&TypeShape>,
     to: Option<&TypeShape>,
 ) -> Option<Conversion>
-    ensures { result ≡ conversions.implicit_between types.now null (shape_or_void (option_copied from.entry)) (shape_or_void (option_copied to.entry)) }
+    ensures { result ≡ conversions.implicit_between types.now null
+        (shape_or_void (option_copied from.entry)) (shape_or_void (option_copied to.entry)) }
 {
     match to {
         Some(TypeShape::Integer { .. }) => match from {
@@ -101,7 +103,8 @@ fn converting(
     t: TypeId,
     e: Boxed<TypedExpr>,
 ) -> Result<Boxed<TypedExpr>, NoMemory>
-    ensures { IfOk result (λ made. typed_expr_view made ≡ conversions.converting which at t (typed_expr_view e)) }
+    ensures { IfOk result (λ made. typed_expr_view made
+        ≡ conversions.converting which at t (typed_expr_view e)) }
 {
     match which {
         Conversion::IntegerToInteger => to_integer(scope, at, t, e),
@@ -117,7 +120,8 @@ pub fn converted_to(
     t: TypeId,
     e: Boxed<TypedExpr>,
 ) -> Result<Boxed<TypedExpr>, NoMemory>
-    ensures { IfOk result (λ made. typed_expr_view made ≡ assignments.converted_to types.now at t (typed_expr_view e)) }
+    ensures { IfOk result (λ made. typed_expr_view made
+        ≡ assignments.converted_to types.now at t (typed_expr_view e)) }
 {
     match implicit(types, e.get(), t) {
         Some(which) => converting(scope, which, at, t, e),
@@ -136,7 +140,8 @@ pub(crate) fn is_null_part(types: &Types, x: PartRef) -> bool
 
 /// Whether a part is a null constant where a value of this shape is wanted, or meets it. Only a pointer asks for its value.
 pub(crate) fn is_null_with(types: &Types, x: PartRef, other: Option<&TypeShape>) -> bool
-    ensures { result ≡ tests.is_null_part types.now (part_ref_view x.entry) && is_pointer_shape (shape_or_void (option_copied other.entry)) }
+    ensures { result ≡ tests.is_null_part types.now (part_ref_view x.entry) && is_pointer_shape
+        (shape_or_void (option_copied other.entry)) }
 {
     if is_pointer(other) {
         return is_null_part(types, x);
@@ -147,7 +152,8 @@ pub(crate) fn is_null_with(types: &Types, x: PartRef, other: Option<&TypeShape>)
 /// Whether a value becomes one of this shape without being told.
 #[tactic(auto, using(crate::proofs::NullLaws::implicit_null))]
 pub fn fits(types: &Types, x: PartRef, to: Option<&TypeShape>) -> bool
-    ensures { result ≡ tests.fits types.now (part_ref_view x.entry) (shape_or_void (option_copied to.entry)) }
+    ensures { result ≡ tests.fits types.now (part_ref_view x.entry)
+        (shape_or_void (option_copied to.entry)) }
 {
     let value = shape_of(types, x);
     let null = is_null_with(types, x, to);
@@ -156,7 +162,8 @@ pub fn fits(types: &Types, x: PartRef, to: Option<&TypeShape>) -> bool
 
 /// The conversion that a cast makes (C99 6.5.4).
 fn cast_between(null: bool, from: Option<&TypeShape>, to: Option<&TypeShape>) -> Option<Conversion>
-    ensures { result ≡ conversions.cast_between null (shape_or_void (option_copied from.entry)) (shape_or_void (option_copied to.entry)) }
+    ensures { result ≡ conversions.cast_between null (shape_or_void (option_copied from.entry))
+        (shape_or_void (option_copied to.entry)) }
 {
     match to {
         Some(TypeShape::Integer { .. }) => match from {
@@ -185,7 +192,8 @@ pub(crate) fn cast_conversion(types: &Types, e: &TypedExpr, t: TypeId) -> Option
 /// Whether a part can be cast to a type of this shape.
 #[tactic(auto, using(crate::proofs::NullLaws::cast_null))]
 pub(crate) fn is_castable(types: &Types, x: PartRef, to: Option<&TypeShape>) -> bool
-    ensures { result ≡ tests.is_castable types.now (part_ref_view x.entry) (shape_or_void (option_copied to.entry)) }
+    ensures { result ≡ tests.is_castable types.now (part_ref_view x.entry)
+        (shape_or_void (option_copied to.entry)) }
 {
     let value = shape_of(types, x);
     let null = is_null_with(types, x, to);
@@ -211,7 +219,9 @@ fn given_allocation(
     at: Place,
     e: Boxed<TypedExpr>,
 ) -> Result<Part, Fault>
-    ensures { Answers part_view (operands.given_allocation t at (typed_expr_view e) (conversions.is_pointer_to_complete types.old scope.old.scopes t) (known types.old scope.old)) result (known types.new scope.new) }
+    ensures { Answers part_view (operands.given_allocation t at (typed_expr_view e)
+        (conversions.is_pointer_to_complete types.old scope.old.scopes t)
+        (known types.old scope.old)) result (known types.new scope.new) }
 {
     if is_pointer_to_complete(scope, types, t) {
         return Ok(Part::Allocation(made_for(scope, t, e)?));
@@ -229,7 +239,8 @@ pub fn given(
     at: Place,
     x: Part,
 ) -> Result<Part, Fault>
-    ensures { Answers part_view (operands.given t at (part_view x) (known types.old scope.old)) result (known types.new scope.new) }
+    ensures { Answers part_view (operands.given t at (part_view x) (known types.old scope.old))
+        result (known types.new scope.new) }
 {
     match x {
         Part::Allocation(e) => given_allocation(scope, types, t, at, e),

@@ -25,7 +25,8 @@ pub fn integer(
     value: u64,
     at: Place,
 ) -> Result<Operand, Fault>
-    ensures { Answers operand_view (operations.integer of value at (known types.now scope.now)) result (known types.now scope.now) }
+    ensures { Answers operand_view (operations.integer of value at (known types.now scope.now))
+        result (known types.now scope.now) }
 {
     let t = constant_kind(of).ty();
     Ok(Operand {
@@ -38,7 +39,8 @@ pub fn integer(
 /// A character constant (C99 6.4.4.4).
 #[tactic(auto, using(c_tree::proofs::TypedViewLaws::typed_views), unfolding(c_typing::specs::Operations::character, c_typing::specs::Operations::leaf))]
 pub fn character(scope: &Scope, types: &Types, value: i32, at: Place) -> Result<Operand, Fault>
-    ensures { Answers operand_view (operations.character value at (known types.now scope.now)) result (known types.now scope.now) }
+    ensures { Answers operand_view (operations.character value at (known types.now scope.now))
+        result (known types.now scope.now) }
 {
     Ok(Operand {
         part: Part::Value(Boxed::new(scope.alloc(), TypedExpr::Character(value, at, INT))?),
@@ -68,7 +70,8 @@ fn in_parens(scope: &Scope, at: Place, x: Part) -> Result<Part, NoMemory>
 /// An expression in parentheses (C99 6.5.1).
 #[tactic(auto, unfolding(c_typing::specs::Operations::paren, c_typing::specs::Operations::construct, c_typing::specs::Judging::holding))]
 pub fn paren(scope: &Scope, types: &Types, at: Place, x: Operand) -> Result<Operand, Fault>
-    ensures { Answers operand_view (operations.paren at (operand_view x) (known types.now scope.now)) result (known types.now scope.now) }
+    ensures { Answers operand_view (operations.paren at (operand_view x)
+        (known types.now scope.now)) result (known types.now scope.now) }
 {
     let held = holding(at, held_with_one(x.held))?;
     let part = in_parens(scope, at, x.part)?;

@@ -66,7 +66,8 @@ fn pointer_meets(
     to: TypeId,
     right: Option<&TypeShape>,
 ) -> Meeting
-    ensures { (n : NodeId) → meeting_view result ≡ rules.meeting_of types.now left_null right_null (Pointer n to) (shape_or_void (option_copied right.entry)) }
+    ensures { (n : NodeId) → meeting_view result ≡ rules.meeting_of types.now left_null right_null
+        (Pointer n to) (shape_or_void (option_copied right.entry)) }
 {
     if right_null {
         return Meeting::RightIsNull(to);
@@ -91,7 +92,8 @@ fn meeting_of(
     left: Option<&TypeShape>,
     right: Option<&TypeShape>,
 ) -> Meeting
-    ensures { meeting_view result ≡ rules.meeting_of types.now left_null right_null (shape_or_void (option_copied left.entry)) (shape_or_void (option_copied right.entry)) }
+    ensures { meeting_view result ≡ rules.meeting_of types.now left_null right_null
+        (shape_or_void (option_copied left.entry)) (shape_or_void (option_copied right.entry)) }
 {
     match left {
         Some(TypeShape::Pointer(_, t)) => pointer_meets(types, left_null, right_null, *t, right),
@@ -103,7 +105,8 @@ fn meeting_of(
 }
 
 pub(crate) fn how_they_meet(types: &Types, a: &TypedExpr, b: &TypedExpr) -> Meeting
-    ensures { meeting_view result ≡ rules.meeting types.now (typed_expr_view a.now) (typed_expr_view b.now) }
+    ensures { meeting_view result ≡ rules.meeting types.now (typed_expr_view a.now)
+        (typed_expr_view b.now) }
 {
     let left_null = is_null_constant(types, a);
     let right_null = is_null_constant(types, b);
@@ -118,7 +121,8 @@ pub(crate) fn how_they_meet(types: &Types, a: &TypedExpr, b: &TypedExpr) -> Meet
 
 /// Whether a pointer of the one shape is taken where one of the other is wanted.
 fn is_taken(types: &Types, a: Option<&TypeShape>, b: Option<&TypeShape>) -> bool
-    ensures { result ≡ tests.taken_as types.now (shape_or_void (option_copied a.entry)) (shape_or_void (option_copied b.entry)) }
+    ensures { result ≡ tests.taken_as types.now (shape_or_void (option_copied a.entry))
+        (shape_or_void (option_copied b.entry)) }
 {
     match (a, b) {
         (Some(TypeShape::Pointer(_, t)), Some(TypeShape::Pointer(_, u))) => {

@@ -38,7 +38,8 @@ pub(crate) struct FoundMember {
 
 /// The place of a member by its name, in what has this shape.
 fn named_member(scope: &Scope, shape: Option<&TypeShape>, name: &[u8]) -> Option<usize>
-    ensures { result ≡ operations.named_member scope.now.scopes (shape_or_void (option_copied shape.entry)) name.now }
+    ensures { result ≡ operations.named_member scope.now.scopes
+        (shape_or_void (option_copied shape.entry)) name.now }
 {
     match shape {
         Some(TypeShape::Struct(number) | TypeShape::Union(number)) => {
@@ -50,7 +51,8 @@ fn named_member(scope: &Scope, shape: Option<&TypeShape>, name: &[u8]) -> Option
 
 /// Whether a struct or union with this shape has the member.
 fn names_member(scope: &Scope, shape: Option<&TypeShape>, name: &[u8]) -> bool
-    ensures { result ≡ tests.names_member scope.now.scopes (number_of_shape (shape_or_void (option_copied shape.entry))) name.now }
+    ensures { result ≡ tests.names_member scope.now.scopes
+        (number_of_shape (shape_or_void (option_copied shape.entry))) name.now }
 {
     match shape {
         Some(TypeShape::Struct(number) | TypeShape::Union(number)) => {
@@ -67,7 +69,8 @@ fn member_fault(
     at: Place,
     name: &Identifier,
 ) -> Option<Fault>
-    ensures { result ≡ first_broken (tests.member_tests scope.now.scopes (shape_or_void (option_copied shape.entry)) at name.now.bytes name.now.place) }
+    ensures { result ≡ first_broken (tests.member_tests scope.now.scopes
+        (shape_or_void (option_copied shape.entry)) at name.now.bytes name.now.place) }
 {
     let aggregate = is_aggregate(shape);
     if aggregate && !names_member(scope, shape, name.bytes.as_slice()) {
@@ -87,7 +90,8 @@ pub(crate) fn numbered(
     at: Place,
     place: Option<usize>,
 ) -> Result<u32, Fault>
-    ensures { Answers (λ i. i) (operations.numbered at place (known types.now scope.now)) result (known types.now scope.now) }
+    ensures { Answers (λ i. i) (operations.numbered at place (known types.now scope.now)) result
+        (known types.now scope.now) }
 {
     match place {
         Some(i) => {
@@ -110,7 +114,8 @@ fn found(
     whole: TypeId,
     name: &Identifier,
 ) -> Result<FoundMember, Fault>
-    ensures { Answers found_view (operations.found begin (shape_at types.now whole) name.now (known types.now scope.old)) result (known types.now scope.new) }
+    ensures { Answers found_view (operations.found begin (shape_at types.now whole) name.now
+        (known types.now scope.old)) result (known types.now scope.new) }
 {
     let place = named_member(scope, shape_at(types, whole), name.bytes.as_slice());
     let member = numbered(scope, types, begin, place)?;
@@ -147,7 +152,8 @@ fn place_in(
     found: FoundMember,
     t: TypeId,
 ) -> Result<Boxed<TypedPlace>, NoMemory>
-    ensures { IfOk result (λ made. typed_place_view made ≡ typed.Member (typed_place_view p) at name.now found.member found.node t) }
+    ensures { IfOk result (λ made. typed_place_view made
+        ≡ typed.Member (typed_place_view p) at name.now found.member found.node t) }
 {
     let alloc = scope.alloc();
     let name = copied_name(alloc, name)?;
@@ -167,7 +173,9 @@ fn member_of_place(
     name: &Identifier,
     p: Boxed<TypedPlace>,
 ) -> Result<Part, Fault>
-    ensures { Answers part_view (operations.member_of begin at name.now (AsPlace (typed_place_view p)) (known types.now scope.old)) result (known types.now scope.new) }
+    ensures { Answers part_view (operations.member_of begin at name.now
+        (AsPlace (typed_place_view p)) (known types.now scope.old)) result
+        (known types.now scope.new) }
 {
     let whole = p.get().ty();
     let i = found(scope, types, begin, whole, name)?;
@@ -185,7 +193,8 @@ fn member_of(
     name: &Identifier,
     x: Part,
 ) -> Result<Part, Fault>
-    ensures { Answers part_view (operations.member_of begin at name.now (part_view x) (known types.now scope.old)) result (known types.now scope.new) }
+    ensures { Answers part_view (operations.member_of begin at name.now (part_view x)
+        (known types.now scope.old)) result (known types.now scope.new) }
 {
     match x {
         Part::Place(p) => member_of_place(scope, types, begin, at, name, p),
@@ -201,7 +210,8 @@ fn part_fault(
     at: Place,
     name: &Identifier,
 ) -> Option<Fault>
-    ensures { result ≡ first_broken (tests.member_tests scope.now.scopes (tests.shape_of types.now (part_ref_view x.entry)) at name.now.bytes name.now.place) }
+    ensures { result ≡ first_broken (tests.member_tests scope.now.scopes
+        (tests.shape_of types.now (part_ref_view x.entry)) at name.now.bytes name.now.place) }
 {
     let shape = shape_of(types, x);
     member_fault(scope, shape.get(), at, name)
@@ -216,7 +226,8 @@ pub fn member(
     at: Place,
     name: &Identifier,
 ) -> Result<Operand, Fault>
-    ensures { Answers operand_view (operations.member (operand_view x) at name.now (known types.now scope.old)) result (known types.now scope.new) }
+    ensures { Answers operand_view (operations.member (operand_view x) at name.now
+        (known types.now scope.old)) result (known types.now scope.new) }
 {
     let place = x.place;
     let fault = part_fault(scope, types, x.part.as_ref(), at, name);
@@ -237,7 +248,9 @@ fn value_fault(
     at: Place,
     name: &Identifier,
 ) -> Option<Fault>
-    ensures { result ≡ first_broken (tests.member_tests scope.now.scopes (tests.pointed_shape types.now (shape_at types.now (type_of (typed_expr_view e.now)))) at name.now.bytes name.now.place) }
+    ensures { result ≡ first_broken (tests.member_tests scope.now.scopes
+        (tests.pointed_shape types.now (shape_at types.now (type_of (typed_expr_view e.now)))) at
+        name.now.bytes name.now.place) }
 {
     let shape = pointed_shape(types, shape_at(types, e.ty()));
     member_fault(scope, shape, at, name)
@@ -253,7 +266,8 @@ fn place_behind(
     found: FoundMember,
     t: TypeId,
 ) -> Result<Boxed<TypedPlace>, NoMemory>
-    ensures { IfOk result (λ made. typed_place_view made ≡ typed.MemberAt (typed_expr_view e) at name.now found.member found.node t) }
+    ensures { IfOk result (λ made. typed_place_view made
+        ≡ typed.MemberAt (typed_expr_view e) at name.now found.member found.node t) }
 {
     let alloc = scope.alloc();
     let name = copied_name(alloc, name)?;
@@ -273,7 +287,9 @@ fn member_at_pointer(
     name: &Identifier,
     e: Boxed<TypedExpr>,
 ) -> Result<Part, Fault>
-    ensures { Answers part_view (operations.member_at_pointer begin at name.now (typed_expr_view e) (pointee_at types.now (type_of (typed_expr_view e))) (known types.now scope.old)) result (known types.now scope.new) }
+    ensures { Answers part_view (operations.member_at_pointer begin at name.now (typed_expr_view e)
+        (pointee_at types.now (type_of (typed_expr_view e))) (known types.now scope.old)) result
+        (known types.now scope.new) }
 {
     let Some(whole) = pointee_at(types, e.get().ty()) else {
         return Err(no_room(begin));
@@ -292,7 +308,8 @@ pub fn pointed_member(
     at: Place,
     name: &Identifier,
 ) -> Result<Operand, Fault>
-    ensures { Answers operand_view (operations.pointed_member (value_view v) at name.now (known types.now scope.old)) result (known types.now scope.new) }
+    ensures { Answers operand_view (operations.pointed_member (value_view v) at name.now
+        (known types.now scope.old)) result (known types.now scope.new) }
 {
     if let Some(fault) = value_fault(scope, types, v.expr.get(), at, name) {
         return Err(fault);

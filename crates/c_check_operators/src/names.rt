@@ -63,7 +63,10 @@ fn is_main(name: &[u8]) -> bool
 
 /// Whether a name stands for no value: `runtime` says that a runtime function has it.
 fn is_unknown(scope: &Scope, runtime: bool, name: &[u8]) -> bool
-    ensures { result ≡ ((tests.is_none (name_in scope.now.scopes.levels name.now) && not runtime) || (tests.is_type_declared (name_in scope.now.scopes.levels name.now) || (tests.is_function_declared (name_in scope.now.scopes.levels name.now) && (not runtime && tests.is_none (place_among scope.now.scopes.defined name.now))))) }
+    ensures { result ≡ ((tests.is_none (name_in scope.now.scopes.levels name.now) && not runtime) ||
+        (tests.is_type_declared (name_in scope.now.scopes.levels name.now) ||
+        (tests.is_function_declared (name_in scope.now.scopes.levels name.now) &&
+        (not runtime && tests.is_none (place_among scope.now.scopes.defined name.now))))) }
 {
     let what = scope.name(name);
     (is_undeclared(what) && !runtime)
@@ -73,7 +76,10 @@ fn is_unknown(scope: &Scope, runtime: bool, name: &[u8]) -> bool
 
 /// Whether a name is `main`, or a runtime function's where it is not called.
 fn is_bad_call(scope: &Scope, runtime: bool, called: bool, name: &[u8]) -> bool
-    ensures { result ≡ ((tests.is_function_declared (name_in scope.now.scopes.levels name.now) && tests.is_main name.now) || (runtime && (not called && (tests.is_none (name_in scope.now.scopes.levels name.now) || tests.is_function_declared (name_in scope.now.scopes.levels name.now))))) }
+    ensures { result ≡ ((tests.is_function_declared (name_in scope.now.scopes.levels name.now) &&
+        tests.is_main name.now) || (runtime && (not called &&
+        (tests.is_none (name_in scope.now.scopes.levels name.now) || tests.is_function_declared
+        (name_in scope.now.scopes.levels name.now))))) }
 {
     let what = scope.name(name);
     (is_function_declared(what) && is_main(name))
@@ -82,7 +88,8 @@ fn is_bad_call(scope: &Scope, runtime: bool, called: bool, name: &[u8]) -> bool
 
 /// The rules of a name.
 fn name_fault(scope: &Scope, runtime: bool, called: bool, word: &Identifier) -> Option<Fault>
-    ensures { result ≡ first_broken (tests.name_tests scope.now.scopes runtime called word.now.bytes word.now.place) }
+    ensures { result ≡ first_broken (tests.name_tests scope.now.scopes runtime called word.now.bytes
+        word.now.place) }
 {
     let name = word.bytes.as_slice();
     if is_unknown(scope, runtime, name) {
@@ -109,7 +116,8 @@ fn function_name(
     word: &Identifier,
     function: TypeId,
 ) -> Result<Part, Fault>
-    ensures { Answers part_view (assignments.function_name word.now function (known types.old scope.old)) result (known types.new scope.new) }
+    ensures { Answers part_view (assignments.function_name word.now function
+        (known types.old scope.old)) result (known types.new scope.new) }
 {
     let alloc = scope.alloc();
     let place = scope.function(word.bytes.as_slice());
@@ -131,7 +139,8 @@ fn named_as(
     runtime: Option<Runtime>,
     what: Option<Declared>,
 ) -> Result<Part, Fault>
-    ensures { Answers part_view (assignments.named_as word.now runtime what (known types.old scope.old)) result (known types.new scope.new) }
+    ensures { Answers part_view (assignments.named_as word.now runtime what
+        (known types.old scope.old)) result (known types.new scope.new) }
 {
     let alloc = scope.alloc();
     match what {
@@ -175,7 +184,8 @@ pub fn name(
     called: bool,
     word: &Identifier,
 ) -> Result<Operand, Fault>
-    ensures { Answers operand_view (assignments.name called word.now (known types.old scope.old)) result (known types.new scope.new) }
+    ensures { Answers operand_view (assignments.name called word.now (known types.old scope.old))
+        result (known types.new scope.new) }
 {
     let runtime = runtime_of(word.bytes.as_slice());
     let is_runtime = matches!(runtime, Some(_));

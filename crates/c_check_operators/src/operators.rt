@@ -29,7 +29,8 @@ use cc_base::{Fault, Place, Rule};
 
 /// Pointers to one type.
 pub(crate) fn point_alike(types: &Types, a: Option<&TypeShape>, b: Option<&TypeShape>) -> bool
-    ensures { result ≡ tests.point_alike types.now (shape_or_void (option_copied a.entry)) (shape_or_void (option_copied b.entry)) }
+    ensures { result ≡ tests.point_alike types.now (shape_or_void (option_copied a.entry))
+        (shape_or_void (option_copied b.entry)) }
 {
     match (a, b) {
         (Some(TypeShape::Pointer(_, t)), Some(TypeShape::Pointer(_, u))) => {
@@ -46,7 +47,8 @@ pub(crate) fn is_moving(
     a: Option<&TypeShape>,
     b: Option<&TypeShape>,
 ) -> bool
-    ensures { result ≡ tests.is_moving types.now operator (shape_or_void (option_copied a.entry)) (shape_or_void (option_copied b.entry)) }
+    ensures { result ≡ tests.is_moving types.now operator (shape_or_void (option_copied a.entry))
+        (shape_or_void (option_copied b.entry)) }
 {
     match operator {
         Binary::Add => is_index_pair(a, b),
@@ -62,14 +64,17 @@ fn are_ordered(
     a: Option<&TypeShape>,
     b: Option<&TypeShape>,
 ) -> bool
-    ensures { result ≡ is_order operator && (tests.point_alike types.now (shape_or_void (option_copied a.entry)) (shape_or_void (option_copied b.entry)) && tests.point_to_data types.now (shape_or_void (option_copied a.entry))) }
+    ensures { result ≡ is_order operator && (tests.point_alike types.now
+        (shape_or_void (option_copied a.entry)) (shape_or_void (option_copied b.entry)) &&
+        tests.point_to_data types.now (shape_or_void (option_copied a.entry))) }
 {
     is_order(operator) && point_alike(types, a, b) && point_to_data(types, a)
 }
 
 /// Whether an operator accepts these operands.
 fn accepts(types: &Types, operator: Binary, x: PartRef, y: PartRef) -> bool
-    ensures { result ≡ tests.accepts types.now operator (part_ref_view x.entry) (part_ref_view y.entry) }
+    ensures { result ≡ tests.accepts types.now operator (part_ref_view x.entry)
+        (part_ref_view y.entry) }
 {
     let left = shape_of(types, x);
     let right = shape_of(types, y);
@@ -98,7 +103,8 @@ fn constant_as(from: Kind, to: Kind, z: i128) -> i128
 fn divides_as(operator: Binary, left: Kind, right: Kind, x: i128, y: i128) -> bool
     requires left { IsIntegerSize left.bytes }
     requires right { IsIntegerSize right.bytes }
-    ensures { result ≡ tests.divides_as operator (Some (kind_view left)) (Some (kind_view right)) (Some x) (Some y) }
+    ensures { result ≡ tests.divides_as operator (Some (kind_view left)) (Some (kind_view right))
+        (Some x) (Some y) }
 {
     let to = left_kind(operator, left, right);
     let x = constant_as(left, to, x);
@@ -108,7 +114,8 @@ fn divides_as(operator: Binary, left: Kind, right: Kind, x: i128, y: i128) -> bo
 
 /// Whether both operands are constant, and the operator divides them without a result.
 fn divides_constants(types: &Types, operator: Binary, a: &TypedExpr, b: &TypedExpr) -> bool
-    ensures { result ≡ tests.divides_part types.now operator (AsValue (typed_expr_view a.now)) (AsValue (typed_expr_view b.now)) }
+    ensures { result ≡ tests.divides_part types.now operator (AsValue (typed_expr_view a.now))
+        (AsValue (typed_expr_view b.now)) }
 {
     let left = integer_at(types, a.ty());
     let right = integer_at(types, b.ty());
@@ -122,7 +129,8 @@ fn divides_constants(types: &Types, operator: Binary, a: &TypedExpr, b: &TypedEx
 
 /// Whether both operands are constant, and the operator divides without a result. Only an operator that divides looks at them.
 fn divides_part(types: &Types, operator: Binary, a: &TypedExpr, b: &TypedExpr) -> bool
-    ensures { result ≡ tests.divides_part types.now operator (AsValue (typed_expr_view a.now)) (AsValue (typed_expr_view b.now)) }
+    ensures { result ≡ tests.divides_part types.now operator (AsValue (typed_expr_view a.now))
+        (AsValue (typed_expr_view b.now)) }
 {
     match operator {
         Binary::Divide | Binary::Remainder => divides_constants(types, operator, a, b),
@@ -138,7 +146,10 @@ fn moves_incomplete(
     a: Option<&TypeShape>,
     b: Option<&TypeShape>,
 ) -> bool
-    ensures { result ≡ tests.is_moving types.now operator (shape_or_void (option_copied a.entry)) (shape_or_void (option_copied b.entry)) && (tests.points_to_incomplete types.now scope.now.scopes (shape_or_void (option_copied a.entry)) || tests.points_to_incomplete types.now scope.now.scopes (shape_or_void (option_copied b.entry))) }
+    ensures { result ≡ tests.is_moving types.now operator (shape_or_void (option_copied a.entry))
+        (shape_or_void (option_copied b.entry)) && (tests.points_to_incomplete types.now
+        scope.now.scopes (shape_or_void (option_copied a.entry)) || tests.points_to_incomplete
+        types.now scope.now.scopes (shape_or_void (option_copied b.entry))) }
 {
     is_moving(types, operator, a, b)
         && (points_to_incomplete(scope, types, a) || points_to_incomplete(scope, types, b))
@@ -154,7 +165,8 @@ pub(crate) fn infix_fault(
     a: &TypedExpr,
     b: &TypedExpr,
 ) -> Option<Fault>
-    ensures { result ≡ first_broken (tests.infix_tests types.now scope.now.scopes operator at begin (AsValue (typed_expr_view a.now)) (AsValue (typed_expr_view b.now))) }
+    ensures { result ≡ first_broken (tests.infix_tests types.now scope.now.scopes operator at begin
+        (AsValue (typed_expr_view a.now)) (AsValue (typed_expr_view b.now))) }
 {
     let left = shape_at(types, a.ty());
     let right = shape_at(types, b.ty());

@@ -33,7 +33,8 @@ pub(crate) fn is_array_part(types: &Types, x: &Part) -> bool
 
 /// The rules of `++` and `--`.
 fn step_fault(scope: &Scope, types: &Types, at: Place, x: &Part) -> Option<Fault>
-    ensures { result ≡ first_broken (tests.step_tests types.now scope.now.scopes at (part_view x.now)) }
+    ensures { result ≡ first_broken (tests.step_tests types.now scope.now.scopes at
+        (part_view x.now)) }
 {
     let value = shape_of(types, x.as_ref());
     let shape = value.get();
@@ -58,7 +59,8 @@ fn part_before(
     at: Place,
     x: Part,
 ) -> Result<Part, Fault>
-    ensures { Answers part_view (operations.step_part (λ p. typed.StepBefore operator at p) at (part_view x) (known types.now scope.now)) result (known types.now scope.now) }
+    ensures { Answers part_view (operations.step_part (λ p. typed.StepBefore operator at p) at
+        (part_view x) (known types.now scope.now)) result (known types.now scope.now) }
 {
     match x {
         Part::Place(p) => {
@@ -77,7 +79,8 @@ fn part_after(
     at: Place,
     x: Part,
 ) -> Result<Part, Fault>
-    ensures { Answers part_view (operations.step_part (λ p. typed.StepAfter p operator at) at (part_view x) (known types.now scope.now)) result (known types.now scope.now) }
+    ensures { Answers part_view (operations.step_part (λ p. typed.StepAfter p operator at) at
+        (part_view x) (known types.now scope.now)) result (known types.now scope.now) }
 {
     match x {
         Part::Place(p) => {
@@ -96,7 +99,8 @@ fn step_before(
     at: Place,
     x: Operand,
 ) -> Result<Operand, Fault>
-    ensures { Answers operand_view (operations.step_before operator at (operand_view x) (known types.old scope.old)) result (known types.new scope.new) }
+    ensures { Answers operand_view (operations.step_before operator at (operand_view x)
+        (known types.old scope.old)) result (known types.new scope.new) }
 {
     let fault = step_fault(scope, types, at, &x.part);
     let allowed = allowed(fault, at, x)?;
@@ -117,7 +121,8 @@ pub fn step_after(
     at: Place,
     x: Operand,
 ) -> Result<Operand, Fault>
-    ensures { Answers operand_view (operations.step_after operator at (operand_view x) (known types.old scope.old)) result (known types.new scope.new) }
+    ensures { Answers operand_view (operations.step_after operator at (operand_view x)
+        (known types.old scope.old)) result (known types.new scope.new) }
 {
     let begin = x.place;
     let fault = step_fault(scope, types, at, &x.part);
@@ -139,7 +144,8 @@ pub fn prefix(
     at: Place,
     x: Operand,
 ) -> Result<Operand, Fault>
-    ensures { Answers operand_view (operations.prefix operator at (operand_view x) (known types.old scope.old)) result (known types.new scope.new) }
+    ensures { Answers operand_view (operations.prefix operator at (operand_view x)
+        (known types.old scope.old)) result (known types.new scope.new) }
 {
     match operator {
         Unary::Increment => step_before(scope, types, Step::Increment, at, x),

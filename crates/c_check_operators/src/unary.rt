@@ -32,7 +32,8 @@ use cc_base::{Fault, NoMemory, Place, Rule, TypeId};
 
 /// The rules of `*`.
 fn target_fault(scope: &Scope, types: &Types, at: Place, e: &TypedExpr) -> Option<Fault>
-    ensures { result ≡ first_broken (tests.target_tests types.now scope.now.scopes at (AsValue (typed_expr_view e.now))) }
+    ensures { result ≡ first_broken (tests.target_tests types.now scope.now.scopes at
+        (AsValue (typed_expr_view e.now))) }
 {
     let shape = shape_at(types, e.ty());
     if points_to_open(scope, types, shape) {
@@ -47,7 +48,8 @@ fn target_fault(scope: &Scope, types: &Types, at: Place, e: &TypedExpr) -> Optio
 /// `*` of a value.
 #[tactic(auto, using(c_tree::proofs::TypedViewLaws::typed_views))]
 fn pointed(scope: &Scope, types: &Types, at: Place, e: Boxed<TypedExpr>) -> Result<Part, NoMemory>
-    ensures { IfOk result (λ x. part_view x ≡ operations.pointed types.now at (typed_expr_view e) (pointee_at types.now (type_of (typed_expr_view e)))) }
+    ensures { IfOk result (λ x. part_view x ≡ operations.pointed types.now at (typed_expr_view e)
+        (pointee_at types.now (type_of (typed_expr_view e)))) }
 {
     let Some(to) = pointee_at(types, e.get().ty()) else {
         return Ok(Part::Value(e));
@@ -61,7 +63,8 @@ fn pointed(scope: &Scope, types: &Types, at: Place, e: Boxed<TypedExpr>) -> Resu
 
 #[tactic(auto, unfolding(c_typing::specs::Operations::target_of, c_typing::specs::Operations::construct, c_typing::specs::Judging::holding))]
 fn target_of(scope: &mut Scope, types: &mut Types, at: Place, v: Value) -> Result<Operand, Fault>
-    ensures { Answers operand_view (operations.target_of at (value_view v) (known types.old scope.old)) result (known types.new scope.new) }
+    ensures { Answers operand_view (operations.target_of at (value_view v)
+        (known types.old scope.old)) result (known types.new scope.new) }
 {
     if let Some(fault) = target_fault(scope, types, at, v.expr.get()) {
         return Err(fault);
@@ -83,7 +86,8 @@ pub(crate) fn target(
     at: Place,
     x: Operand,
 ) -> Result<Operand, Fault>
-    ensures { Answers operand_view (operations.target at (operand_view x) (known types.old scope.old)) result (known types.new scope.new) }
+    ensures { Answers operand_view (operations.target at (operand_view x)
+        (known types.old scope.old)) result (known types.new scope.new) }
 {
     let v = value(scope, types, x)?;
     target_of(scope, types, at, v)
@@ -98,7 +102,8 @@ fn prefix_fault(
     e: &TypedExpr,
 ) -> Option<Fault>
     requires { operations.is_arithmetic_prefix operator ≡ true }
-    ensures { result ≡ first_broken (tests.prefix_tests types.now scope.now.scopes operator at (AsValue (typed_expr_view e.now))) }
+    ensures { result ≡ first_broken (tests.prefix_tests types.now scope.now.scopes operator at
+        (AsValue (typed_expr_view e.now))) }
 {
     let shape = shape_at(types, e.ty());
     let fits = match operator {
@@ -140,7 +145,8 @@ fn promoted_operand(
     at: Place,
     e: Boxed<TypedExpr>,
 ) -> Result<Boxed<TypedExpr>, NoMemory>
-    ensures { IfOk result (λ made. typed_expr_view made ≡ operations.promoted_operand operator at (typed_expr_view e) (integer_at types.now (type_of (typed_expr_view e)))) }
+    ensures { IfOk result (λ made. typed_expr_view made ≡ operations.promoted_operand operator at
+        (typed_expr_view e) (integer_at types.now (type_of (typed_expr_view e)))) }
 {
     match integer_at(types, e.get().ty()) {
         Some(kind) => {
@@ -164,7 +170,8 @@ fn operator_on(
     at: Place,
     e: Boxed<TypedExpr>,
 ) -> Result<Boxed<TypedExpr>, NoMemory>
-    ensures { IfOk result (λ made. typed_expr_view made ≡ operations.operator_on types.now operator at (typed_expr_view e)) }
+    ensures { IfOk result (λ made. typed_expr_view made
+        ≡ operations.operator_on types.now operator at (typed_expr_view e)) }
 {
     match operator {
         Unary::Not => Ok(Boxed::new(scope.alloc(), TypedExpr::Prefix(operator, at, e, INT))?),
@@ -181,7 +188,8 @@ fn prefix_of(
     v: Value,
 ) -> Result<Operand, Fault>
     requires { operations.is_arithmetic_prefix operator ≡ true }
-    ensures { Answers operand_view (operations.prefix_of operator at (value_view v) (known types.old scope.old)) result (known types.new scope.new) }
+    ensures { Answers operand_view (operations.prefix_of operator at (value_view v)
+        (known types.old scope.old)) result (known types.new scope.new) }
 {
     if let Some(fault) = prefix_fault(scope, types, operator, at, v.expr.get()) {
         return Err(fault);
@@ -204,7 +212,9 @@ pub(crate) fn computed(
     x: Operand,
 ) -> Result<Operand, Fault>
     requires { operations.is_arithmetic_prefix operator ≡ true }
-    ensures { Answers operand_view (judging.next (operands.value (operand_view x) (known types.old scope.old)) (operations.prefix_of operator at)) result (known types.new scope.new) }
+    ensures { Answers operand_view (judging.next (operands.value (operand_view x)
+        (known types.old scope.old)) (operations.prefix_of operator at)) result
+        (known types.new scope.new) }
 {
     let v = value(scope, types, x)?;
     prefix_of(scope, types, operator, at, v)

@@ -44,10 +44,17 @@ impl<
         cursor: &mut Cursor<'_>,
         mut before: Measured<Items<Expr>>,
     ) -> Result<Measured<Items<Expr>>, Stop>
-        requires nests { Nests self.now.names.now self.now.depth (E.pre self.now.read_expr) (E.post self.now.read_expr) (S.pre self.now.read_specifiers) (S.post self.now.read_specifiers) (D.pre self.now.read_declarator) (D.post self.now.read_declarator) }
-        requires measured { IsMeasured self.now.depth (arguments_height (arguments_of (map expr_view before.tree))) before.height }
-        ensures reads { Reads (λ m. arguments_of (map expr_view m.tree)) (spec.next_argument (rules (names_of self.now.names.now) self.now.depth) (arguments_of (map expr_view before.tree)) cursor.old) result cursor.new }
-        ensures height { IfOk result (λ m. IsMeasured self.now.depth (arguments_height (arguments_of (map expr_view m.tree))) m.height) }
+        requires nests { Nests self.now.names.now self.now.depth (E.pre self.now.read_expr)
+            (E.post self.now.read_expr) (S.pre self.now.read_specifiers)
+            (S.post self.now.read_specifiers) (D.pre self.now.read_declarator)
+            (D.post self.now.read_declarator) }
+        requires measured { IsMeasured self.now.depth (arguments_height
+            (arguments_of (map expr_view before.tree))) before.height }
+        ensures reads { Reads (λ m. arguments_of (map expr_view m.tree))
+            (spec.next_argument (rules (names_of self.now.names.now) self.now.depth)
+            (arguments_of (map expr_view before.tree)) cursor.old) result cursor.new }
+        ensures height { IfOk result (λ m. IsMeasured self.now.depth
+            (arguments_height (arguments_of (map expr_view m.tree))) m.height) }
     {
         let Measured { tree, height } = self.expr(cursor, 1)?;
         before.tree.push(tree)?;
@@ -60,10 +67,17 @@ impl<
         cursor: &mut Cursor<'_>,
         before: Measured<Items<Expr>>,
     ) -> Result<Measured<Items<Expr>>, Stop>
-        requires nests { Nests self.now.names.now self.now.depth (E.pre self.now.read_expr) (E.post self.now.read_expr) (S.pre self.now.read_specifiers) (S.post self.now.read_specifiers) (D.pre self.now.read_declarator) (D.post self.now.read_declarator) }
-        requires measured { IsMeasured self.now.depth (arguments_height (arguments_of (map expr_view before.tree))) before.height }
-        ensures reads { Reads (λ m. arguments_of (map expr_view m.tree)) (after_skip (spec.next_argument (rules (names_of self.now.names.now) self.now.depth) (arguments_of (map expr_view before.tree))) cursor.old) result cursor.new }
-        ensures height { IfOk result (λ m. IsMeasured self.now.depth (arguments_height (arguments_of (map expr_view m.tree))) m.height) }
+        requires nests { Nests self.now.names.now self.now.depth (E.pre self.now.read_expr)
+            (E.post self.now.read_expr) (S.pre self.now.read_specifiers)
+            (S.post self.now.read_specifiers) (D.pre self.now.read_declarator)
+            (D.post self.now.read_declarator) }
+        requires measured { IsMeasured self.now.depth (arguments_height
+            (arguments_of (map expr_view before.tree))) before.height }
+        ensures reads { Reads (λ m. arguments_of (map expr_view m.tree))
+            (after_skip (spec.next_argument (rules (names_of self.now.names.now) self.now.depth)
+            (arguments_of (map expr_view before.tree))) cursor.old) result cursor.new }
+        ensures height { IfOk result (λ m. IsMeasured self.now.depth
+            (arguments_height (arguments_of (map expr_view m.tree))) m.height) }
     {
         cursor.skip()?;
         self.next_argument(cursor, before)
@@ -74,10 +88,18 @@ impl<
         cursor: &mut Cursor<'_>,
         first: Measured<Items<Expr>>,
     ) -> Result<Measured<Items<Expr>>, Stop>
-        requires nests { Nests self.now.names.now self.now.depth (E.pre self.now.read_expr) (E.post self.now.read_expr) (S.pre self.now.read_specifiers) (S.post self.now.read_specifiers) (D.pre self.now.read_declarator) (D.post self.now.read_declarator) }
-        requires measured { IsMeasured self.now.depth (arguments_height (arguments_of (map expr_view first.tree))) first.height }
-        ensures reads { Reads (λ m. arguments_of (map expr_view m.tree)) (loop (λ _. tests.is_comma) (λ before. after_skip (spec.next_argument (rules (names_of self.now.names.now) self.now.depth) before)) (arguments_of (map expr_view first.tree)) cursor.old) result cursor.new }
-        ensures height { IfOk result (λ m. IsMeasured self.now.depth (arguments_height (arguments_of (map expr_view m.tree))) m.height) }
+        requires nests { Nests self.now.names.now self.now.depth (E.pre self.now.read_expr)
+            (E.post self.now.read_expr) (S.pre self.now.read_specifiers)
+            (S.post self.now.read_specifiers) (D.pre self.now.read_declarator)
+            (D.post self.now.read_declarator) }
+        requires measured { IsMeasured self.now.depth (arguments_height
+            (arguments_of (map expr_view first.tree))) first.height }
+        ensures reads { Reads (λ m. arguments_of (map expr_view m.tree))
+            (loop (λ _. tests.is_comma) (λ before. after_skip
+            (spec.next_argument (rules (names_of self.now.names.now) self.now.depth) before))
+            (arguments_of (map expr_view first.tree)) cursor.old) result cursor.new }
+        ensures height { IfOk result (λ m. IsMeasured self.now.depth
+            (arguments_height (arguments_of (map expr_view m.tree))) m.height) }
     {
         let mut list = first;
         for _turn in 0..cursor.left() {
@@ -92,9 +114,15 @@ impl<
     /// Arguments, up to the `)`.
     #[tactic(auto, unfolding(crate::specs::ExprRules::arguments))]
     pub fn arguments(&self, cursor: &mut Cursor<'_>) -> Result<Measured<Items<Expr>>, Stop>
-        requires nests { Nests self.now.names.now self.now.depth (E.pre self.now.read_expr) (E.post self.now.read_expr) (S.pre self.now.read_specifiers) (S.post self.now.read_specifiers) (D.pre self.now.read_declarator) (D.post self.now.read_declarator) }
-        ensures reads { Reads (λ m. arguments_of (map expr_view m.tree)) (spec.arguments (names_of self.now.names.now) (rules (names_of self.now.names.now) self.now.depth) cursor.old) result cursor.new }
-        ensures height { IfOk result (λ m. IsMeasured self.now.depth (arguments_height (arguments_of (map expr_view m.tree))) m.height) }
+        requires nests { Nests self.now.names.now self.now.depth (E.pre self.now.read_expr)
+            (E.post self.now.read_expr) (S.pre self.now.read_specifiers)
+            (S.post self.now.read_specifiers) (D.pre self.now.read_declarator)
+            (D.post self.now.read_declarator) }
+        ensures reads { Reads (λ m. arguments_of (map expr_view m.tree))
+            (spec.arguments (names_of self.now.names.now)
+            (rules (names_of self.now.names.now) self.now.depth) cursor.old) result cursor.new }
+        ensures height { IfOk result (λ m. IsMeasured self.now.depth
+            (arguments_height (arguments_of (map expr_view m.tree))) m.height) }
     {
         let none = Measured {
             tree: Items::new(self.alloc),

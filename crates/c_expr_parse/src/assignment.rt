@@ -50,10 +50,17 @@ impl<
         test: Measured<Expr>,
         at: Place,
     ) -> Result<Measured<Expr>, Stop>
-        requires nests { Nests self.now.names.now self.now.depth (E.pre self.now.read_expr) (E.post self.now.read_expr) (S.pre self.now.read_specifiers) (S.post self.now.read_specifiers) (D.pre self.now.read_declarator) (D.post self.now.read_declarator) }
-        requires measured { IsMeasured (suc self.now.depth) (expr_height (expr_view test.tree)) test.height }
-        ensures reads { Reads (λ m. expr_view m.tree) (spec.with_question self.now.depth (rules (names_of self.now.names.now) self.now.depth) (expr_view test.tree) (Some at) cursor.old) result cursor.new }
-        ensures height { IfOk result (λ m. IsMeasured (suc self.now.depth) (expr_height (expr_view m.tree)) m.height) }
+        requires nests { Nests self.now.names.now self.now.depth (E.pre self.now.read_expr)
+            (E.post self.now.read_expr) (S.pre self.now.read_specifiers)
+            (S.post self.now.read_specifiers) (D.pre self.now.read_declarator)
+            (D.post self.now.read_declarator) }
+        requires measured { IsMeasured (suc self.now.depth)
+            (expr_height (expr_view test.tree)) test.height }
+        ensures reads { Reads (λ m. expr_view m.tree) (spec.with_question self.now.depth
+            (rules (names_of self.now.names.now) self.now.depth) (expr_view test.tree)
+            (Some at) cursor.old) result cursor.new }
+        ensures height { IfOk result (λ m. IsMeasured (suc self.now.depth)
+            (expr_height (expr_view m.tree)) m.height) }
     {
         let test = boxed(self.alloc, test)?;
         cursor.take_above(self.depth, test.height)?;
@@ -75,10 +82,17 @@ impl<
         least: u8,
         test: Measured<Expr>,
     ) -> Result<Measured<Expr>, Stop>
-        requires nests { Nests self.now.names.now self.now.depth (E.pre self.now.read_expr) (E.post self.now.read_expr) (S.pre self.now.read_specifiers) (S.post self.now.read_specifiers) (D.pre self.now.read_declarator) (D.post self.now.read_declarator) }
-        requires measured { IsMeasured (suc self.now.depth) (expr_height (expr_view test.tree)) test.height }
-        ensures reads { Reads (λ m. expr_view m.tree) (by_first (levels.question_after least) (spec.with_question self.now.depth (rules (names_of self.now.names.now) self.now.depth) (expr_view test.tree)) cursor.old) result cursor.new }
-        ensures height { IfOk result (λ m. IsMeasured (suc self.now.depth) (expr_height (expr_view m.tree)) m.height) }
+        requires nests { Nests self.now.names.now self.now.depth (E.pre self.now.read_expr)
+            (E.post self.now.read_expr) (S.pre self.now.read_specifiers)
+            (S.post self.now.read_specifiers) (D.pre self.now.read_declarator)
+            (D.post self.now.read_declarator) }
+        requires measured { IsMeasured (suc self.now.depth)
+            (expr_height (expr_view test.tree)) test.height }
+        ensures reads { Reads (λ m. expr_view m.tree) (by_first (levels.question_after least)
+            (spec.with_question self.now.depth (rules (names_of self.now.names.now) self.now.depth)
+            (expr_view test.tree)) cursor.old) result cursor.new }
+        ensures height { IfOk result (λ m. IsMeasured (suc self.now.depth)
+            (expr_height (expr_view m.tree)) m.height) }
     {
         match question_after(least, cursor.peek()) {
             Some(at) => self.with_question(cursor, test, at),
@@ -94,10 +108,17 @@ impl<
         op: Assignment,
         at: Place,
     ) -> Result<Measured<Expr>, Stop>
-        requires nests { Nests self.now.names.now self.now.depth (E.pre self.now.read_expr) (E.post self.now.read_expr) (S.pre self.now.read_specifiers) (S.post self.now.read_specifiers) (D.pre self.now.read_declarator) (D.post self.now.read_declarator) }
-        requires measured { IsMeasured (suc self.now.depth) (expr_height (expr_view left.tree)) left.height }
-        ensures reads { Reads (λ m. expr_view m.tree) (spec.with_assignment self.now.depth (rules (names_of self.now.names.now) self.now.depth) (expr_view left.tree) (Some (tests.At op at)) cursor.old) result cursor.new }
-        ensures height { IfOk result (λ m. IsMeasured (suc self.now.depth) (expr_height (expr_view m.tree)) m.height) }
+        requires nests { Nests self.now.names.now self.now.depth (E.pre self.now.read_expr)
+            (E.post self.now.read_expr) (S.pre self.now.read_specifiers)
+            (S.post self.now.read_specifiers) (D.pre self.now.read_declarator)
+            (D.post self.now.read_declarator) }
+        requires measured { IsMeasured (suc self.now.depth)
+            (expr_height (expr_view left.tree)) left.height }
+        ensures reads { Reads (λ m. expr_view m.tree) (spec.with_assignment self.now.depth
+            (rules (names_of self.now.names.now) self.now.depth) (expr_view left.tree)
+            (Some (tests.At op at)) cursor.old) result cursor.new }
+        ensures height { IfOk result (λ m. IsMeasured (suc self.now.depth)
+            (expr_height (expr_view m.tree)) m.height) }
     {
         let left = boxed(self.alloc, left)?;
         cursor.take_above(self.depth, left.height)?;
@@ -116,10 +137,18 @@ impl<
         least: u8,
         left: Measured<Expr>,
     ) -> Result<Measured<Expr>, Stop>
-        requires nests { Nests self.now.names.now self.now.depth (E.pre self.now.read_expr) (E.post self.now.read_expr) (S.pre self.now.read_specifiers) (S.post self.now.read_specifiers) (D.pre self.now.read_declarator) (D.post self.now.read_declarator) }
-        requires measured { IsMeasured (suc self.now.depth) (expr_height (expr_view left.tree)) left.height }
-        ensures reads { Reads (λ m. expr_view m.tree) (by_first (levels.assignment_after least (expr_view left.tree)) (spec.with_assignment self.now.depth (rules (names_of self.now.names.now) self.now.depth) (expr_view left.tree)) cursor.old) result cursor.new }
-        ensures height { IfOk result (λ m. IsMeasured (suc self.now.depth) (expr_height (expr_view m.tree)) m.height) }
+        requires nests { Nests self.now.names.now self.now.depth (E.pre self.now.read_expr)
+            (E.post self.now.read_expr) (S.pre self.now.read_specifiers)
+            (S.post self.now.read_specifiers) (D.pre self.now.read_declarator)
+            (D.post self.now.read_declarator) }
+        requires measured { IsMeasured (suc self.now.depth)
+            (expr_height (expr_view left.tree)) left.height }
+        ensures reads { Reads (λ m. expr_view m.tree) (by_first
+            (levels.assignment_after least (expr_view left.tree))
+            (spec.with_assignment self.now.depth (rules (names_of self.now.names.now)
+            self.now.depth) (expr_view left.tree)) cursor.old) result cursor.new }
+        ensures height { IfOk result (λ m. IsMeasured (suc self.now.depth)
+            (expr_height (expr_view m.tree)) m.height) }
     {
         match assignment_after(least, &left.tree, cursor.peek()) {
             Some(operator) => self.with_assignment(cursor, left, operator.what, operator.place),
@@ -133,10 +162,17 @@ impl<
         cursor: &mut Cursor<'_>,
         left: Measured<Expr>,
     ) -> Result<Measured<Expr>, Stop>
-        requires nests { Nests self.now.names.now self.now.depth (E.pre self.now.read_expr) (E.post self.now.read_expr) (S.pre self.now.read_specifiers) (S.post self.now.read_specifiers) (D.pre self.now.read_declarator) (D.post self.now.read_declarator) }
-        requires measured { IsMeasured (suc self.now.depth) (expr_height (expr_view left.tree)) left.height }
-        ensures reads { Reads (λ m. expr_view m.tree) (spec.comma_step self.now.depth (rules (names_of self.now.names.now) self.now.depth) (expr_view left.tree) cursor.old) result cursor.new }
-        ensures height { IfOk result (λ m. IsMeasured (suc self.now.depth) (expr_height (expr_view m.tree)) m.height) }
+        requires nests { Nests self.now.names.now self.now.depth (E.pre self.now.read_expr)
+            (E.post self.now.read_expr) (S.pre self.now.read_specifiers)
+            (S.post self.now.read_specifiers) (D.pre self.now.read_declarator)
+            (D.post self.now.read_declarator) }
+        requires measured { IsMeasured (suc self.now.depth)
+            (expr_height (expr_view left.tree)) left.height }
+        ensures reads { Reads (λ m. expr_view m.tree) (spec.comma_step self.now.depth
+            (rules (names_of self.now.names.now) self.now.depth) (expr_view left.tree) cursor.old)
+            result cursor.new }
+        ensures height { IfOk result (λ m. IsMeasured (suc self.now.depth)
+            (expr_height (expr_view m.tree)) m.height) }
     {
         let left = boxed(self.alloc, left)?;
         cursor.take_above(self.depth, left.height)?;
@@ -154,10 +190,18 @@ impl<
         least: u8,
         first: Measured<Expr>,
     ) -> Result<Measured<Expr>, Stop>
-        requires nests { Nests self.now.names.now self.now.depth (E.pre self.now.read_expr) (E.post self.now.read_expr) (S.pre self.now.read_specifiers) (S.post self.now.read_specifiers) (D.pre self.now.read_declarator) (D.post self.now.read_declarator) }
-        requires measured { IsMeasured (suc self.now.depth) (expr_height (expr_view first.tree)) first.height }
-        ensures reads { Reads (λ m. expr_view m.tree) (loop (λ _ next. least == 0 && tests.is_comma next) (spec.comma_step self.now.depth (rules (names_of self.now.names.now) self.now.depth)) (expr_view first.tree) cursor.old) result cursor.new }
-        ensures height { IfOk result (λ m. IsMeasured (suc self.now.depth) (expr_height (expr_view m.tree)) m.height) }
+        requires nests { Nests self.now.names.now self.now.depth (E.pre self.now.read_expr)
+            (E.post self.now.read_expr) (S.pre self.now.read_specifiers)
+            (S.post self.now.read_specifiers) (D.pre self.now.read_declarator)
+            (D.post self.now.read_declarator) }
+        requires measured { IsMeasured (suc self.now.depth)
+            (expr_height (expr_view first.tree)) first.height }
+        ensures reads { Reads (λ m. expr_view m.tree) (loop (λ _ next. least == 0 && tests.is_comma
+            next) (spec.comma_step self.now.depth (rules
+            (names_of self.now.names.now) self.now.depth)) (expr_view first.tree) cursor.old) result
+            cursor.new }
+        ensures height { IfOk result (λ m. IsMeasured (suc self.now.depth)
+            (expr_height (expr_view m.tree)) m.height) }
     {
         let mut e = first;
         for _turn in 0..cursor.left() {

@@ -82,8 +82,11 @@ pub fn parse_expr(
     requires text { length text.now ≤ 1048576 }
     requires from { from ≤ length toks.now }
     requires depth { depth ≤ 256 }
-    ensures read { IfOk result (λ r. IsReadTo (ExprAnswered (names_of names.now) (spec.least_level level) (256 - depth) (symbols_from toks.now from)) toks.now from (expr_view r.0) r.1) }
-    ensures refused { IfErr result (IsFault (ExprAnswered (names_of names.now) (spec.least_level level) (256 - depth) (symbols_from toks.now from)) text.now toks.now) }
+    ensures read { IfOk result (λ r. IsReadTo (ExprAnswered (names_of names.now)
+        (spec.least_level level) (256 - depth) (symbols_from toks.now from)) toks.now from
+        (expr_view r.0) r.1) }
+    ensures refused { IfErr result (IsFault (ExprAnswered (names_of names.now)
+        (spec.least_level level) (256 - depth) (symbols_from toks.now from)) text.now toks.now) }
 {
     let mut cursor = Cursor::new(&toks[from..]);
     match read_expr(
@@ -112,8 +115,11 @@ pub fn parse_specifiers(
     requires text { length text.now ≤ 1048576 }
     requires from { from ≤ length toks.now }
     requires depth { depth ≤ 256 }
-    ensures read { IfOk result (λ r. IsReadTo (SpecifiersAnswered (names_of names.now) (spec.scope_of file) (256 - depth) (symbols_from toks.now from)) toks.now from (specifiers_view r.0) r.1) }
-    ensures refused { IfErr result (IsFault (SpecifiersAnswered (names_of names.now) (spec.scope_of file) (256 - depth) (symbols_from toks.now from)) text.now toks.now) }
+    ensures read { IfOk result (λ r. IsReadTo (SpecifiersAnswered (names_of names.now)
+        (spec.scope_of file) (256 - depth) (symbols_from toks.now from)) toks.now from
+        (specifiers_view r.0) r.1) }
+    ensures refused { IfErr result (IsFault (SpecifiersAnswered (names_of names.now)
+        (spec.scope_of file) (256 - depth) (symbols_from toks.now from)) text.now toks.now) }
 {
     let mut cursor = Cursor::new(&toks[from..]);
     match read_specifiers(
@@ -140,8 +146,10 @@ pub fn parse_declarator(
     requires text { length text.now ≤ 1048576 }
     requires from { from ≤ length toks.now }
     requires depth { depth ≤ 256 }
-    ensures read { IfOk result (λ r. IsReadTo (DeclaratorAnswered (names_of names.now) WithName (256 - depth) (symbols_from toks.now from)) toks.now from (declarator_view r.0) r.1) }
-    ensures refused { IfErr result (IsFault (DeclaratorAnswered (names_of names.now) WithName (256 - depth) (symbols_from toks.now from)) text.now toks.now) }
+    ensures read { IfOk result (λ r. IsReadTo (DeclaratorAnswered (names_of names.now) WithName
+        (256 - depth) (symbols_from toks.now from)) toks.now from (declarator_view r.0) r.1) }
+    ensures refused { IfErr result (IsFault (DeclaratorAnswered (names_of names.now) WithName
+        (256 - depth) (symbols_from toks.now from)) text.now toks.now) }
 {
     let mut cursor = Cursor::new(&toks[from..]);
     match read_declarator(

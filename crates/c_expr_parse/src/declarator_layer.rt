@@ -50,11 +50,18 @@ impl<
         core: Measured<Core>,
         before: Measured<Items<Part>>,
     ) -> Result<Measured<Declarator>, Stop>
-        requires nests { Nests self.now.names.now self.now.depth (E.pre self.now.read_expr) (E.post self.now.read_expr) (S.pre self.now.read_specifiers) (S.post self.now.read_specifiers) (D.pre self.now.read_declarator) (D.post self.now.read_declarator) }
+        requires nests { Nests self.now.names.now self.now.depth (E.pre self.now.read_expr)
+            (E.post self.now.read_expr) (S.pre self.now.read_specifiers)
+            (S.post self.now.read_specifiers) (D.pre self.now.read_declarator)
+            (D.post self.now.read_declarator) }
         requires core { IsMeasured self.now.depth (core_height (core_view core.tree)) core.height }
-        requires measured { IsMeasured self.now.depth (parts_height (parts_seen before.tree)) before.height }
-        ensures reads { Reads (λ m. declarator_view m.tree) (spec.parts_from (names_of self.now.names.now) (rules (names_of self.now.names.now) self.now.depth) stars (core_view core.tree) (parts_seen before.tree) cursor.old) result cursor.new }
-        ensures height { IfOk result (λ m. IsMeasured (suc self.now.depth) (declarator_height (declarator_view m.tree)) m.height) }
+        requires measured { IsMeasured self.now.depth (parts_height (parts_seen before.tree))
+            before.height }
+        ensures reads { Reads (λ m. declarator_view m.tree) (spec.parts_from
+            (names_of self.now.names.now) (rules (names_of self.now.names.now) self.now.depth) stars
+            (core_view core.tree) (parts_seen before.tree) cursor.old) result cursor.new }
+        ensures height { IfOk result (λ m. IsMeasured (suc self.now.depth)
+            (declarator_height (declarator_view m.tree)) m.height) }
     {
         let Measured { tree, height } = self.more_parts(cursor, before)?;
         Ok(Measured {
@@ -86,9 +93,15 @@ impl<
         stars: Items<Star>,
         at: Place,
     ) -> Result<Measured<Declarator>, Stop>
-        requires nests { Nests self.now.names.now self.now.depth (E.pre self.now.read_expr) (E.post self.now.read_expr) (S.pre self.now.read_specifiers) (S.post self.now.read_specifiers) (D.pre self.now.read_declarator) (D.post self.now.read_declarator) }
-        ensures reads { Reads (λ m. declarator_view m.tree) (spec.nested (names_of self.now.names.now) (rules (names_of self.now.names.now) self.now.depth) (naming_view naming) stars at cursor.old) result cursor.new }
-        ensures height { IfOk result (λ m. IsMeasured (suc self.now.depth) (declarator_height (declarator_view m.tree)) m.height) }
+        requires nests { Nests self.now.names.now self.now.depth (E.pre self.now.read_expr)
+            (E.post self.now.read_expr) (S.pre self.now.read_specifiers)
+            (S.post self.now.read_specifiers) (D.pre self.now.read_declarator)
+            (D.post self.now.read_declarator) }
+        ensures reads { Reads (λ m. declarator_view m.tree) (spec.nested
+            (names_of self.now.names.now) (rules (names_of self.now.names.now) self.now.depth)
+            (naming_view naming) stars at cursor.old) result cursor.new }
+        ensures height { IfOk result (λ m. IsMeasured (suc self.now.depth)
+            (declarator_height (declarator_view m.tree)) m.height) }
     {
         let inner = boxed(self.alloc, self.declarator(cursor, naming)?)?;
         let close = is_close_paren(cursor.peek());
@@ -108,9 +121,15 @@ impl<
         stars: Items<Star>,
         at: Place,
     ) -> Result<Measured<Declarator>, Stop>
-        requires nests { Nests self.now.names.now self.now.depth (E.pre self.now.read_expr) (E.post self.now.read_expr) (S.pre self.now.read_specifiers) (S.post self.now.read_specifiers) (D.pre self.now.read_declarator) (D.post self.now.read_declarator) }
-        ensures reads { Reads (λ m. declarator_view m.tree) (spec.unnamed_function (names_of self.now.names.now) (rules (names_of self.now.names.now) self.now.depth) stars at cursor.old) result cursor.new }
-        ensures height { IfOk result (λ m. IsMeasured (suc self.now.depth) (declarator_height (declarator_view m.tree)) m.height) }
+        requires nests { Nests self.now.names.now self.now.depth (E.pre self.now.read_expr)
+            (E.post self.now.read_expr) (S.pre self.now.read_specifiers)
+            (S.post self.now.read_specifiers) (D.pre self.now.read_declarator)
+            (D.post self.now.read_declarator) }
+        ensures reads { Reads (λ m. declarator_view m.tree) (spec.unnamed_function
+            (names_of self.now.names.now) (rules (names_of self.now.names.now) self.now.depth) stars
+            at cursor.old) result cursor.new }
+        ensures height { IfOk result (λ m. IsMeasured (suc self.now.depth)
+            (declarator_height (declarator_view m.tree)) m.height) }
     {
         let parts = self.function_part(cursor, self.no_parts(), at)?;
         let core = Measured {
@@ -129,9 +148,15 @@ impl<
         stars: Items<Star>,
         at: Place,
     ) -> Result<Measured<Declarator>, Stop>
-        requires nests { Nests self.now.names.now self.now.depth (E.pre self.now.read_expr) (E.post self.now.read_expr) (S.pre self.now.read_specifiers) (S.post self.now.read_specifiers) (D.pre self.now.read_declarator) (D.post self.now.read_declarator) }
-        ensures reads { Reads (λ m. declarator_view m.tree) (spec.after_core_paren (names_of self.now.names.now) (rules (names_of self.now.names.now) self.now.depth) (naming_view naming) stars at cursor.old) result cursor.new }
-        ensures height { IfOk result (λ m. IsMeasured (suc self.now.depth) (declarator_height (declarator_view m.tree)) m.height) }
+        requires nests { Nests self.now.names.now self.now.depth (E.pre self.now.read_expr)
+            (E.post self.now.read_expr) (S.pre self.now.read_specifiers)
+            (S.post self.now.read_specifiers) (D.pre self.now.read_declarator)
+            (D.post self.now.read_declarator) }
+        ensures reads { Reads (λ m. declarator_view m.tree) (spec.after_core_paren
+            (names_of self.now.names.now) (rules (names_of self.now.names.now) self.now.depth)
+            (naming_view naming) stars at cursor.old) result cursor.new }
+        ensures height { IfOk result (λ m. IsMeasured (suc self.now.depth)
+            (declarator_height (declarator_view m.tree)) m.height) }
     {
         if may_omit_name(naming) && begins_parameters(self.names, cursor.peek()) {
             return self.unnamed_function(cursor, stars, at);
@@ -146,9 +171,15 @@ impl<
         cursor: &mut Cursor<'_>,
         stars: Items<Star>,
     ) -> Result<Measured<Declarator>, Stop>
-        requires nests { Nests self.now.names.now self.now.depth (E.pre self.now.read_expr) (E.post self.now.read_expr) (S.pre self.now.read_specifiers) (S.post self.now.read_specifiers) (D.pre self.now.read_declarator) (D.post self.now.read_declarator) }
-        ensures reads { Reads (λ m. declarator_view m.tree) (spec.unnamed (names_of self.now.names.now) (rules (names_of self.now.names.now) self.now.depth) stars cursor.old) result cursor.new }
-        ensures height { IfOk result (λ m. IsMeasured (suc self.now.depth) (declarator_height (declarator_view m.tree)) m.height) }
+        requires nests { Nests self.now.names.now self.now.depth (E.pre self.now.read_expr)
+            (E.post self.now.read_expr) (S.pre self.now.read_specifiers)
+            (S.post self.now.read_specifiers) (D.pre self.now.read_declarator)
+            (D.post self.now.read_declarator) }
+        ensures reads { Reads (λ m. declarator_view m.tree) (spec.unnamed
+            (names_of self.now.names.now) (rules (names_of self.now.names.now) self.now.depth) stars
+            cursor.old) result cursor.new }
+        ensures height { IfOk result (λ m. IsMeasured (suc self.now.depth)
+            (declarator_height (declarator_view m.tree)) m.height) }
     {
         if stars.is_empty() && open_bracket(cursor.peek()).is_none() {
             return Err(Stop::Syntax);
@@ -168,9 +199,16 @@ impl<
         bytes: &[u8],
         place: Place,
     ) -> Result<Measured<Declarator>, Stop>
-        requires nests { Nests self.now.names.now self.now.depth (E.pre self.now.read_expr) (E.post self.now.read_expr) (S.pre self.now.read_specifiers) (S.post self.now.read_specifiers) (D.pre self.now.read_declarator) (D.post self.now.read_declarator) }
-        ensures reads { Reads (λ m. declarator_view m.tree) (spec.parts_from (names_of self.now.names.now) (rules (names_of self.now.names.now) self.now.depth) stars (tree.Names (record { bytes = bytes.now; place = place })) tree.NoPart cursor.old) result cursor.new }
-        ensures height { IfOk result (λ m. IsMeasured (suc self.now.depth) (declarator_height (declarator_view m.tree)) m.height) }
+        requires nests { Nests self.now.names.now self.now.depth (E.pre self.now.read_expr)
+            (E.post self.now.read_expr) (S.pre self.now.read_specifiers)
+            (S.post self.now.read_specifiers) (D.pre self.now.read_declarator)
+            (D.post self.now.read_declarator) }
+        ensures reads { Reads (λ m. declarator_view m.tree) (spec.parts_from
+            (names_of self.now.names.now) (rules (names_of self.now.names.now) self.now.depth) stars
+            (tree.Names (record { bytes = bytes.now; place = place })) tree.NoPart cursor.old)
+            result cursor.new }
+        ensures height { IfOk result (λ m. IsMeasured (suc self.now.depth)
+            (declarator_height (declarator_view m.tree)) m.height) }
     {
         let core = Measured {
             tree: Core::Names(Identifier {
@@ -190,9 +228,15 @@ impl<
         stars: Items<Star>,
         start: CoreStart<'_>,
     ) -> Result<Measured<Declarator>, Stop>
-        requires nests { Nests self.now.names.now self.now.depth (E.pre self.now.read_expr) (E.post self.now.read_expr) (S.pre self.now.read_specifiers) (S.post self.now.read_specifiers) (D.pre self.now.read_declarator) (D.post self.now.read_declarator) }
-        ensures reads { Reads (λ m. declarator_view m.tree) (spec.with_core (names_of self.now.names.now) (rules (names_of self.now.names.now) self.now.depth) (naming_view naming) stars (core_start_view start.entry) cursor.old) result cursor.new }
-        ensures height { IfOk result (λ m. IsMeasured (suc self.now.depth) (declarator_height (declarator_view m.tree)) m.height) }
+        requires nests { Nests self.now.names.now self.now.depth (E.pre self.now.read_expr)
+            (E.post self.now.read_expr) (S.pre self.now.read_specifiers)
+            (S.post self.now.read_specifiers) (D.pre self.now.read_declarator)
+            (D.post self.now.read_declarator) }
+        ensures reads { Reads (λ m. declarator_view m.tree) (spec.with_core
+            (names_of self.now.names.now) (rules (names_of self.now.names.now) self.now.depth)
+            (naming_view naming) stars (core_start_view start.entry) cursor.old) result cursor.new }
+        ensures height { IfOk result (λ m. IsMeasured (suc self.now.depth)
+            (declarator_height (declarator_view m.tree)) m.height) }
     {
         match start {
             CoreStart::Name(bytes, place) => {
@@ -220,9 +264,15 @@ impl<
         cursor: &mut Cursor<'_>,
         naming: Naming,
     ) -> Result<Measured<Declarator>, Stop>
-        requires nests { Nests self.now.names.now self.now.depth (E.pre self.now.read_expr) (E.post self.now.read_expr) (S.pre self.now.read_specifiers) (S.post self.now.read_specifiers) (D.pre self.now.read_declarator) (D.post self.now.read_declarator) }
-        ensures reads { Reads (λ m. declarator_view m.tree) (spec.declarator_layer (names_of self.now.names.now) (rules (names_of self.now.names.now) self.now.depth) (naming_view naming) cursor.old) result cursor.new }
-        ensures height { IfOk result (λ m. IsMeasured (suc self.now.depth) (declarator_height (declarator_view m.tree)) m.height) }
+        requires nests { Nests self.now.names.now self.now.depth (E.pre self.now.read_expr)
+            (E.post self.now.read_expr) (S.pre self.now.read_specifiers)
+            (S.post self.now.read_specifiers) (D.pre self.now.read_declarator)
+            (D.post self.now.read_declarator) }
+        ensures reads { Reads (λ m. declarator_view m.tree) (spec.declarator_layer
+            (names_of self.now.names.now) (rules (names_of self.now.names.now) self.now.depth)
+            (naming_view naming) cursor.old) result cursor.new }
+        ensures height { IfOk result (λ m. IsMeasured (suc self.now.depth)
+            (declarator_height (declarator_view m.tree)) m.height) }
     {
         let stars = stars(self.alloc, cursor)?;
         let start = next_core(self.names, naming, cursor.peek());

@@ -49,10 +49,17 @@ impl<
         mut before: Measured<Items<Enumerator>>,
         name: Identifier,
     ) -> Result<Measured<Items<Enumerator>>, Stop>
-        requires nests { Nests self.now.names.now self.now.depth (E.pre self.now.read_expr) (E.post self.now.read_expr) (S.pre self.now.read_specifiers) (S.post self.now.read_specifiers) (D.pre self.now.read_declarator) (D.post self.now.read_declarator) }
-        requires measured { IsMeasured self.now.depth (enumerators_height (enumerators_seen before.tree)) before.height }
-        ensures reads { Reads (λ m. enumerators_seen m.tree) (by_first tests.equals_sign (spec.with_value (rules (names_of self.now.names.now) self.now.depth) (enumerators_seen before.tree) name) cursor.old) result cursor.new }
-        ensures height { IfOk result (λ m. IsMeasured self.now.depth (enumerators_height (enumerators_seen m.tree)) m.height) }
+        requires nests { Nests self.now.names.now self.now.depth (E.pre self.now.read_expr)
+            (E.post self.now.read_expr) (S.pre self.now.read_specifiers)
+            (S.post self.now.read_specifiers) (D.pre self.now.read_declarator)
+            (D.post self.now.read_declarator) }
+        requires measured { IsMeasured self.now.depth (enumerators_height
+            (enumerators_seen before.tree)) before.height }
+        ensures reads { Reads (λ m. enumerators_seen m.tree) (by_first tests.equals_sign
+            (spec.with_value (rules (names_of self.now.names.now) self.now.depth)
+            (enumerators_seen before.tree) name) cursor.old) result cursor.new }
+        ensures height { IfOk result (λ m. IsMeasured self.now.depth
+            (enumerators_height (enumerators_seen m.tree)) m.height) }
     {
         let Some(at) = equals_sign(cursor.peek()) else {
             before.tree.push(Enumerator::Plain(name))?;
@@ -71,10 +78,18 @@ impl<
         cursor: &mut Cursor<'_>,
         before: Measured<Items<Enumerator>>,
     ) -> Result<Measured<Items<Enumerator>>, Stop>
-        requires nests { Nests self.now.names.now self.now.depth (E.pre self.now.read_expr) (E.post self.now.read_expr) (S.pre self.now.read_specifiers) (S.post self.now.read_specifiers) (D.pre self.now.read_declarator) (D.post self.now.read_declarator) }
-        requires measured { IsMeasured self.now.depth (enumerators_height (enumerators_seen before.tree)) before.height }
-        ensures reads { Reads (λ m. enumerators_seen m.tree) (by_first (tests.plain_name (names_of self.now.names.now)) (spec.with_name (rules (names_of self.now.names.now) self.now.depth) (enumerators_seen before.tree)) cursor.old) result cursor.new }
-        ensures height { IfOk result (λ m. IsMeasured self.now.depth (enumerators_height (enumerators_seen m.tree)) m.height) }
+        requires nests { Nests self.now.names.now self.now.depth (E.pre self.now.read_expr)
+            (E.post self.now.read_expr) (S.pre self.now.read_specifiers)
+            (S.post self.now.read_specifiers) (D.pre self.now.read_declarator)
+            (D.post self.now.read_declarator) }
+        requires measured { IsMeasured self.now.depth (enumerators_height
+            (enumerators_seen before.tree)) before.height }
+        ensures reads { Reads (λ m. enumerators_seen m.tree) (by_first
+            (tests.plain_name (names_of self.now.names.now))
+            (spec.with_name (rules (names_of self.now.names.now) self.now.depth)
+            (enumerators_seen before.tree)) cursor.old) result cursor.new }
+        ensures height { IfOk result (λ m. IsMeasured self.now.depth
+            (enumerators_height (enumerators_seen m.tree)) m.height) }
     {
         let Next::Name(bytes, place) = cursor.peek() else {
             return Err(Stop::Syntax);
@@ -96,10 +111,18 @@ impl<
         cursor: &mut Cursor<'_>,
         before: Measured<Items<Enumerator>>,
     ) -> Result<Series<Enumerator>, Stop>
-        requires nests { Nests self.now.names.now self.now.depth (E.pre self.now.read_expr) (E.post self.now.read_expr) (S.pre self.now.read_specifiers) (S.post self.now.read_specifiers) (D.pre self.now.read_declarator) (D.post self.now.read_declarator) }
-        requires measured { IsMeasured self.now.depth (enumerators_height (enumerators_seen before.tree)) before.height }
-        ensures reads { Reads (λ m. Upto (enumerators_seen m.list.tree) m.comma) (spec.next_enumerator (names_of self.now.names.now) (rules (names_of self.now.names.now) self.now.depth) (enumerators_seen before.tree) cursor.old) result cursor.new }
-        ensures height { IfOk result (λ m. IsMeasured self.now.depth (enumerators_height (enumerators_seen m.list.tree)) m.list.height) }
+        requires nests { Nests self.now.names.now self.now.depth (E.pre self.now.read_expr)
+            (E.post self.now.read_expr) (S.pre self.now.read_specifiers)
+            (S.post self.now.read_specifiers) (D.pre self.now.read_declarator)
+            (D.post self.now.read_declarator) }
+        requires measured { IsMeasured self.now.depth (enumerators_height
+            (enumerators_seen before.tree)) before.height }
+        ensures reads { Reads (λ m. Upto (enumerators_seen m.list.tree) m.comma)
+            (spec.next_enumerator (names_of self.now.names.now)
+            (rules (names_of self.now.names.now) self.now.depth)
+            (enumerators_seen before.tree) cursor.old) result cursor.new }
+        ensures height { IfOk result (λ m. IsMeasured self.now.depth
+            (enumerators_height (enumerators_seen m.list.tree)) m.list.height) }
     {
         Ok(Series {
             list: self.enumerator(cursor, before)?,
@@ -114,10 +137,18 @@ impl<
         cursor: &mut Cursor<'_>,
         before: Series<Enumerator>,
     ) -> Result<Series<Enumerator>, Stop>
-        requires nests { Nests self.now.names.now self.now.depth (E.pre self.now.read_expr) (E.post self.now.read_expr) (S.pre self.now.read_specifiers) (S.post self.now.read_specifiers) (D.pre self.now.read_declarator) (D.post self.now.read_declarator) }
-        requires measured { IsMeasured self.now.depth (enumerators_height (enumerators_seen before.list.tree)) before.list.height }
-        ensures reads { Reads (λ m. Upto (enumerators_seen m.list.tree) m.comma) (spec.enumerator_step (names_of self.now.names.now) (rules (names_of self.now.names.now) self.now.depth) (Upto (enumerators_seen before.list.tree) before.comma) cursor.old) result cursor.new }
-        ensures height { IfOk result (λ m. IsMeasured self.now.depth (enumerators_height (enumerators_seen m.list.tree)) m.list.height) }
+        requires nests { Nests self.now.names.now self.now.depth (E.pre self.now.read_expr)
+            (E.post self.now.read_expr) (S.pre self.now.read_specifiers)
+            (S.post self.now.read_specifiers) (D.pre self.now.read_declarator)
+            (D.post self.now.read_declarator) }
+        requires measured { IsMeasured self.now.depth (enumerators_height
+            (enumerators_seen before.list.tree)) before.list.height }
+        ensures reads { Reads (λ m. Upto (enumerators_seen m.list.tree) m.comma)
+            (spec.enumerator_step (names_of self.now.names.now)
+            (rules (names_of self.now.names.now) self.now.depth)
+            (Upto (enumerators_seen before.list.tree) before.comma) cursor.old) result cursor.new }
+        ensures height { IfOk result (λ m. IsMeasured self.now.depth
+            (enumerators_height (enumerators_seen m.list.tree)) m.list.height) }
     {
         cursor.skip()?;
         if begins_enumerator(self.names, cursor.peek()) {
@@ -134,10 +165,18 @@ impl<
         cursor: &mut Cursor<'_>,
         first: Series<Enumerator>,
     ) -> Result<Series<Enumerator>, Stop>
-        requires nests { Nests self.now.names.now self.now.depth (E.pre self.now.read_expr) (E.post self.now.read_expr) (S.pre self.now.read_specifiers) (S.post self.now.read_specifiers) (D.pre self.now.read_declarator) (D.post self.now.read_declarator) }
-        requires measured { IsMeasured self.now.depth (enumerators_height (enumerators_seen first.list.tree)) first.list.height }
-        ensures reads { Reads (λ m. Upto (enumerators_seen m.list.tree) m.comma) (loop spec.goes_on_series (spec.enumerator_step (names_of self.now.names.now) (rules (names_of self.now.names.now) self.now.depth)) (Upto (enumerators_seen first.list.tree) first.comma) cursor.old) result cursor.new }
-        ensures height { IfOk result (λ m. IsMeasured self.now.depth (enumerators_height (enumerators_seen m.list.tree)) m.list.height) }
+        requires nests { Nests self.now.names.now self.now.depth (E.pre self.now.read_expr)
+            (E.post self.now.read_expr) (S.pre self.now.read_specifiers)
+            (S.post self.now.read_specifiers) (D.pre self.now.read_declarator)
+            (D.post self.now.read_declarator) }
+        requires measured { IsMeasured self.now.depth (enumerators_height
+            (enumerators_seen first.list.tree)) first.list.height }
+        ensures reads { Reads (λ m. Upto (enumerators_seen m.list.tree) m.comma)
+            (loop spec.goes_on_series (spec.enumerator_step (names_of self.now.names.now)
+            (rules (names_of self.now.names.now) self.now.depth))
+            (Upto (enumerators_seen first.list.tree) first.comma) cursor.old) result cursor.new }
+        ensures height { IfOk result (λ m. IsMeasured self.now.depth
+            (enumerators_height (enumerators_seen m.list.tree)) m.list.height) }
     {
         let mut series = first;
         for _turn in 0..cursor.left() {
@@ -152,9 +191,15 @@ impl<
     /// Enumerators, up to the `}`.
     #[tactic(auto, unfolding(crate::specs::TypeRules::enumerators))]
     pub fn enumerators(&self, cursor: &mut Cursor<'_>) -> Result<Series<Enumerator>, Stop>
-        requires nests { Nests self.now.names.now self.now.depth (E.pre self.now.read_expr) (E.post self.now.read_expr) (S.pre self.now.read_specifiers) (S.post self.now.read_specifiers) (D.pre self.now.read_declarator) (D.post self.now.read_declarator) }
-        ensures reads { Reads (λ m. Upto (enumerators_seen m.list.tree) m.comma) (spec.enumerators (names_of self.now.names.now) (rules (names_of self.now.names.now) self.now.depth) cursor.old) result cursor.new }
-        ensures height { IfOk result (λ m. IsMeasured self.now.depth (enumerators_height (enumerators_seen m.list.tree)) m.list.height) }
+        requires nests { Nests self.now.names.now self.now.depth (E.pre self.now.read_expr)
+            (E.post self.now.read_expr) (S.pre self.now.read_specifiers)
+            (S.post self.now.read_specifiers) (D.pre self.now.read_declarator)
+            (D.post self.now.read_declarator) }
+        ensures reads { Reads (λ m. Upto (enumerators_seen m.list.tree) m.comma)
+            (spec.enumerators (names_of self.now.names.now)
+            (rules (names_of self.now.names.now) self.now.depth) cursor.old) result cursor.new }
+        ensures height { IfOk result (λ m. IsMeasured self.now.depth
+            (enumerators_height (enumerators_seen m.list.tree)) m.list.height) }
     {
         let none = Measured {
             tree: Items::new(self.alloc),

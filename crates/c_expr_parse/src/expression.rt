@@ -41,9 +41,16 @@ impl<
     /// An expression of at least a level.
     #[tactic(auto, unfolding(crate::specs::ExprRules::expr_layer))]
     pub fn expression(&self, cursor: &mut Cursor<'_>, least: u8) -> Result<Measured<Expr>, Stop>
-        requires nests { Nests self.now.names.now self.now.depth (E.pre self.now.read_expr) (E.post self.now.read_expr) (S.pre self.now.read_specifiers) (S.post self.now.read_specifiers) (D.pre self.now.read_declarator) (D.post self.now.read_declarator) }
-        ensures reads { Reads (λ m. expr_view m.tree) (spec.expr_layer (names_of self.now.names.now) self.now.depth (rules (names_of self.now.names.now) self.now.depth) least cursor.old) result cursor.new }
-        ensures height { IfOk result (λ m. IsMeasured (suc self.now.depth) (expr_height (expr_view m.tree)) m.height) }
+        requires nests { Nests self.now.names.now self.now.depth (E.pre self.now.read_expr)
+            (E.post self.now.read_expr) (S.pre self.now.read_specifiers)
+            (S.post self.now.read_specifiers) (D.pre self.now.read_declarator)
+            (D.post self.now.read_declarator) }
+        ensures reads { Reads (λ m. expr_view m.tree) (spec.expr_layer
+            (names_of self.now.names.now) self.now.depth
+            (rules (names_of self.now.names.now) self.now.depth) least cursor.old) result
+            cursor.new }
+        ensures height { IfOk result (λ m. IsMeasured (suc self.now.depth)
+            (expr_height (expr_view m.tree)) m.height) }
     {
         let first = self.operand(cursor, least)?;
         let test = self.infix(cursor, least, first)?;

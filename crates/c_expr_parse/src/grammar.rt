@@ -50,9 +50,14 @@ impl<
     ) -> Result<Measured<Declarator>, Stop>,
 > Grammar<'a, E, S, D> {
     pub fn expr(&self, cursor: &mut Cursor<'_>, least: u8) -> Result<Measured<Expr>, Stop>
-        requires nests { Nests self.now.names.now self.now.depth (E.pre self.now.read_expr) (E.post self.now.read_expr) (S.pre self.now.read_specifiers) (S.post self.now.read_specifiers) (D.pre self.now.read_declarator) (D.post self.now.read_declarator) }
-        ensures reads { Reads (λ m. expr_view m.tree) ((rules (names_of self.now.names.now) self.now.depth).expr least cursor.old) result cursor.new }
-        ensures height { IfOk result (λ m. IsMeasured self.now.depth (expr_height (expr_view m.tree)) m.height) }
+        requires nests { Nests self.now.names.now self.now.depth (E.pre self.now.read_expr)
+            (E.post self.now.read_expr) (S.pre self.now.read_specifiers)
+            (S.post self.now.read_specifiers) (D.pre self.now.read_declarator)
+            (D.post self.now.read_declarator) }
+        ensures reads { Reads (λ m. expr_view m.tree) ((rules (names_of self.now.names.now)
+            self.now.depth).expr least cursor.old) result cursor.new }
+        ensures height { IfOk result (λ m. IsMeasured self.now.depth
+            (expr_height (expr_view m.tree)) m.height) }
     {
         (self.read_expr)(self.alloc, self.names, cursor, self.depth, least)
     }
@@ -62,9 +67,15 @@ impl<
         cursor: &mut Cursor<'_>,
         scope: Scope,
     ) -> Result<Measured<Specifiers>, Stop>
-        requires nests { Nests self.now.names.now self.now.depth (E.pre self.now.read_expr) (E.post self.now.read_expr) (S.pre self.now.read_specifiers) (S.post self.now.read_specifiers) (D.pre self.now.read_declarator) (D.post self.now.read_declarator) }
-        ensures reads { Reads (λ m. specifiers_view m.tree) ((rules (names_of self.now.names.now) self.now.depth).specifiers (scope_view scope) cursor.old) result cursor.new }
-        ensures height { IfOk result (λ m. IsMeasured self.now.depth (suc (specifiers_height (specifiers_view m.tree))) m.height) }
+        requires nests { Nests self.now.names.now self.now.depth (E.pre self.now.read_expr)
+            (E.post self.now.read_expr) (S.pre self.now.read_specifiers)
+            (S.post self.now.read_specifiers) (D.pre self.now.read_declarator)
+            (D.post self.now.read_declarator) }
+        ensures reads { Reads (λ m. specifiers_view m.tree) ((rules
+            (names_of self.now.names.now) self.now.depth).specifiers (scope_view scope) cursor.old)
+            result cursor.new }
+        ensures height { IfOk result (λ m. IsMeasured self.now.depth
+            (suc (specifiers_height (specifiers_view m.tree))) m.height) }
     {
         (self.read_specifiers)(self.alloc, self.names, cursor, self.depth, scope)
     }
@@ -74,9 +85,15 @@ impl<
         cursor: &mut Cursor<'_>,
         naming: Naming,
     ) -> Result<Measured<Declarator>, Stop>
-        requires nests { Nests self.now.names.now self.now.depth (E.pre self.now.read_expr) (E.post self.now.read_expr) (S.pre self.now.read_specifiers) (S.post self.now.read_specifiers) (D.pre self.now.read_declarator) (D.post self.now.read_declarator) }
-        ensures reads { Reads (λ m. declarator_view m.tree) ((rules (names_of self.now.names.now) self.now.depth).declarator (naming_view naming) cursor.old) result cursor.new }
-        ensures height { IfOk result (λ m. IsMeasured self.now.depth (declarator_height (declarator_view m.tree)) m.height) }
+        requires nests { Nests self.now.names.now self.now.depth (E.pre self.now.read_expr)
+            (E.post self.now.read_expr) (S.pre self.now.read_specifiers)
+            (S.post self.now.read_specifiers) (D.pre self.now.read_declarator)
+            (D.post self.now.read_declarator) }
+        ensures reads { Reads (λ m. declarator_view m.tree) ((rules
+            (names_of self.now.names.now) self.now.depth).declarator
+            (naming_view naming) cursor.old) result cursor.new }
+        ensures height { IfOk result (λ m. IsMeasured self.now.depth
+            (declarator_height (declarator_view m.tree)) m.height) }
     {
         (self.read_declarator)(self.alloc, self.names, cursor, self.depth, naming)
     }

@@ -50,10 +50,17 @@ impl<
         op: Binary,
         at: Place,
     ) -> Result<Measured<Expr>, Stop>
-        requires nests { Nests self.now.names.now self.now.depth (E.pre self.now.read_expr) (E.post self.now.read_expr) (S.pre self.now.read_specifiers) (S.post self.now.read_specifiers) (D.pre self.now.read_declarator) (D.post self.now.read_declarator) }
-        requires measured { IsMeasured (suc self.now.depth) (expr_height (expr_view left.tree)) left.height }
-        ensures reads { Reads (λ m. expr_view m.tree) (spec.with_operator self.now.depth (rules (names_of self.now.names.now) self.now.depth) (expr_view left.tree) (Some (tests.At op at)) cursor.old) result cursor.new }
-        ensures height { IfOk result (λ m. IsMeasured (suc self.now.depth) (expr_height (expr_view m.tree)) m.height) }
+        requires nests { Nests self.now.names.now self.now.depth (E.pre self.now.read_expr)
+            (E.post self.now.read_expr) (S.pre self.now.read_specifiers)
+            (S.post self.now.read_specifiers) (D.pre self.now.read_declarator)
+            (D.post self.now.read_declarator) }
+        requires measured { IsMeasured (suc self.now.depth)
+            (expr_height (expr_view left.tree)) left.height }
+        ensures reads { Reads (λ m. expr_view m.tree) (spec.with_operator self.now.depth
+            (rules (names_of self.now.names.now) self.now.depth) (expr_view left.tree)
+            (Some (tests.At op at)) cursor.old) result cursor.new }
+        ensures height { IfOk result (λ m. IsMeasured (suc self.now.depth)
+            (expr_height (expr_view m.tree)) m.height) }
     {
         let left = boxed(self.alloc, left)?;
         cursor.take_above(self.depth, left.height)?;
@@ -70,10 +77,17 @@ impl<
         cursor: &mut Cursor<'_>,
         left: Measured<Expr>,
     ) -> Result<Measured<Expr>, Stop>
-        requires nests { Nests self.now.names.now self.now.depth (E.pre self.now.read_expr) (E.post self.now.read_expr) (S.pre self.now.read_specifiers) (S.post self.now.read_specifiers) (D.pre self.now.read_declarator) (D.post self.now.read_declarator) }
-        requires measured { IsMeasured (suc self.now.depth) (expr_height (expr_view left.tree)) left.height }
-        ensures reads { Reads (λ m. expr_view m.tree) (spec.infix_step self.now.depth (rules (names_of self.now.names.now) self.now.depth) (expr_view left.tree) cursor.old) result cursor.new }
-        ensures height { IfOk result (λ m. IsMeasured (suc self.now.depth) (expr_height (expr_view m.tree)) m.height) }
+        requires nests { Nests self.now.names.now self.now.depth (E.pre self.now.read_expr)
+            (E.post self.now.read_expr) (S.pre self.now.read_specifiers)
+            (S.post self.now.read_specifiers) (D.pre self.now.read_declarator)
+            (D.post self.now.read_declarator) }
+        requires measured { IsMeasured (suc self.now.depth)
+            (expr_height (expr_view left.tree)) left.height }
+        ensures reads { Reads (λ m. expr_view m.tree) (spec.infix_step self.now.depth
+            (rules (names_of self.now.names.now) self.now.depth) (expr_view left.tree) cursor.old)
+            result cursor.new }
+        ensures height { IfOk result (λ m. IsMeasured (suc self.now.depth)
+            (expr_height (expr_view m.tree)) m.height) }
     {
         match binary_operator(cursor.peek()) {
             Some(operator) => self.with_operator(cursor, left, operator.what, operator.place),
@@ -88,10 +102,17 @@ impl<
         least: u8,
         first: Measured<Expr>,
     ) -> Result<Measured<Expr>, Stop>
-        requires nests { Nests self.now.names.now self.now.depth (E.pre self.now.read_expr) (E.post self.now.read_expr) (S.pre self.now.read_specifiers) (S.post self.now.read_specifiers) (D.pre self.now.read_declarator) (D.post self.now.read_declarator) }
-        requires measured { IsMeasured (suc self.now.depth) (expr_height (expr_view first.tree)) first.height }
-        ensures reads { Reads (λ m. expr_view m.tree) (loop (λ _. tests.binds least) (spec.infix_step self.now.depth (rules (names_of self.now.names.now) self.now.depth)) (expr_view first.tree) cursor.old) result cursor.new }
-        ensures height { IfOk result (λ m. IsMeasured (suc self.now.depth) (expr_height (expr_view m.tree)) m.height) }
+        requires nests { Nests self.now.names.now self.now.depth (E.pre self.now.read_expr)
+            (E.post self.now.read_expr) (S.pre self.now.read_specifiers)
+            (S.post self.now.read_specifiers) (D.pre self.now.read_declarator)
+            (D.post self.now.read_declarator) }
+        requires measured { IsMeasured (suc self.now.depth)
+            (expr_height (expr_view first.tree)) first.height }
+        ensures reads { Reads (λ m. expr_view m.tree) (loop (λ _. tests.binds least)
+            (spec.infix_step self.now.depth (rules (names_of self.now.names.now) self.now.depth))
+            (expr_view first.tree) cursor.old) result cursor.new }
+        ensures height { IfOk result (λ m. IsMeasured (suc self.now.depth)
+            (expr_height (expr_view m.tree)) m.height) }
     {
         let mut e = first;
         for _turn in 0..cursor.left() {

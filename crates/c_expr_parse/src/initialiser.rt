@@ -26,8 +26,10 @@ pub fn value(
     cursor: &mut Cursor<'_>,
     depth: u16,
 ) -> Result<Measured<Initialiser>, Stop>
-    ensures reads { Reads (λ m. initialiser_view m.tree) (spec.value (rules (names_of names.now) depth) cursor.old) result cursor.new }
-    ensures height { IfOk result (λ m. IsMeasured depth (initialiser_height (initialiser_view m.tree)) m.height) }
+    ensures reads { Reads (λ m. initialiser_view m.tree) (spec.value
+        (rules (names_of names.now) depth) cursor.old) result cursor.new }
+    ensures height { IfOk result (λ m. IsMeasured depth
+        (initialiser_height (initialiser_view m.tree)) m.height) }
 {
     let Measured { tree, height } = read_expr(alloc, names, cursor, depth, 1)?;
     Ok(Measured {
@@ -44,8 +46,10 @@ pub fn read_initialiser(
     cursor: &mut Cursor<'_>,
     depth: u16,
 ) -> Result<Measured<Initialiser>, Stop>
-    ensures reads { Reads (λ m. initialiser_view m.tree) (spec.initialiser (names_of names.now) depth cursor.old) result cursor.new }
-    ensures height { IfOk result (λ m. IsMeasured depth (initialiser_height (initialiser_view m.tree)) m.height) }
+    ensures reads { Reads (λ m. initialiser_view m.tree) (spec.initialiser
+        (names_of names.now) depth cursor.old) result cursor.new }
+    ensures height { IfOk result (λ m. IsMeasured depth
+        (initialiser_height (initialiser_view m.tree)) m.height) }
 {
     if depth == 0 {
         return Err(too_deep(begins_initialiser(names, cursor.peek())));

@@ -37,9 +37,12 @@ impl<
     I: Fn(Global, &IndexSet<Vec<u8>>, &mut Cursor<'_>, u16) -> Result<Measured<Initialiser>, Stop>,
 > Braces<'a, I> {
     fn item(&self, cursor: &mut Cursor<'_>) -> Result<Measured<Initialiser>, Stop>
-        requires nests { NestsItems self.now.names.now self.now.depth (I.pre self.now.read_item) (I.post self.now.read_item) }
-        ensures reads { Reads (λ m. initialiser_view m.tree) (spec.initialiser (names_of self.now.names.now) self.now.depth cursor.old) result cursor.new }
-        ensures height { IfOk result (λ m. IsMeasured self.now.depth (initialiser_height (initialiser_view m.tree)) m.height) }
+        requires nests { NestsItems self.now.names.now self.now.depth (I.pre self.now.read_item)
+            (I.post self.now.read_item) }
+        ensures reads { Reads (λ m. initialiser_view m.tree) (spec.initialiser
+            (names_of self.now.names.now) self.now.depth cursor.old) result cursor.new }
+        ensures height { IfOk result (λ m. IsMeasured self.now.depth
+            (initialiser_height (initialiser_view m.tree)) m.height) }
     {
         (self.read_item)(self.alloc, self.names, cursor, self.depth)
     }
@@ -51,10 +54,15 @@ impl<
         cursor: &mut Cursor<'_>,
         mut before: Measured<Items<Initialiser>>,
     ) -> Result<Series<Initialiser>, Stop>
-        requires nests { NestsItems self.now.names.now self.now.depth (I.pre self.now.read_item) (I.post self.now.read_item) }
-        requires measured { IsMeasured self.now.depth (items_height (items_seen before.tree)) before.height }
-        ensures reads { Reads (λ m. Upto (items_seen m.list.tree) m.comma) (spec.next_item (spec.initialiser (names_of self.now.names.now) self.now.depth) (items_seen before.tree) cursor.old) result cursor.new }
-        ensures height { IfOk result (λ m. IsMeasured self.now.depth (items_height (items_seen m.list.tree)) m.list.height) }
+        requires nests { NestsItems self.now.names.now self.now.depth (I.pre self.now.read_item)
+            (I.post self.now.read_item) }
+        requires measured { IsMeasured self.now.depth (items_height (items_seen before.tree))
+            before.height }
+        ensures reads { Reads (λ m. Upto (items_seen m.list.tree) m.comma)
+            (spec.next_item (spec.initialiser (names_of self.now.names.now) self.now.depth)
+            (items_seen before.tree) cursor.old) result cursor.new }
+        ensures height { IfOk result (λ m. IsMeasured self.now.depth
+            (items_height (items_seen m.list.tree)) m.list.height) }
     {
         if is_designator(cursor.peek()) {
             return Err(Stop::Unsupported);
@@ -75,10 +83,16 @@ impl<
         cursor: &mut Cursor<'_>,
         before: Series<Initialiser>,
     ) -> Result<Series<Initialiser>, Stop>
-        requires nests { NestsItems self.now.names.now self.now.depth (I.pre self.now.read_item) (I.post self.now.read_item) }
-        requires measured { IsMeasured self.now.depth (items_height (items_seen before.list.tree)) before.list.height }
-        ensures reads { Reads (λ m. Upto (items_seen m.list.tree) m.comma) (spec.item_step (names_of self.now.names.now) (spec.initialiser (names_of self.now.names.now) self.now.depth) (Upto (items_seen before.list.tree) before.comma) cursor.old) result cursor.new }
-        ensures height { IfOk result (λ m. IsMeasured self.now.depth (items_height (items_seen m.list.tree)) m.list.height) }
+        requires nests { NestsItems self.now.names.now self.now.depth (I.pre self.now.read_item)
+            (I.post self.now.read_item) }
+        requires measured { IsMeasured self.now.depth (items_height (items_seen before.list.tree))
+            before.list.height }
+        ensures reads { Reads (λ m. Upto (items_seen m.list.tree) m.comma)
+            (spec.item_step (names_of self.now.names.now)
+            (spec.initialiser (names_of self.now.names.now) self.now.depth)
+            (Upto (items_seen before.list.tree) before.comma) cursor.old) result cursor.new }
+        ensures height { IfOk result (λ m. IsMeasured self.now.depth
+            (items_height (items_seen m.list.tree)) m.list.height) }
     {
         cursor.skip()?;
         let next = cursor.peek();
@@ -96,10 +110,16 @@ impl<
         cursor: &mut Cursor<'_>,
         first: Series<Initialiser>,
     ) -> Result<Series<Initialiser>, Stop>
-        requires nests { NestsItems self.now.names.now self.now.depth (I.pre self.now.read_item) (I.post self.now.read_item) }
-        requires measured { IsMeasured self.now.depth (items_height (items_seen first.list.tree)) first.list.height }
-        ensures reads { Reads (λ m. Upto (items_seen m.list.tree) m.comma) (loop goes_on_series (spec.item_step (names_of self.now.names.now) (spec.initialiser (names_of self.now.names.now) self.now.depth)) (Upto (items_seen first.list.tree) first.comma) cursor.old) result cursor.new }
-        ensures height { IfOk result (λ m. IsMeasured self.now.depth (items_height (items_seen m.list.tree)) m.list.height) }
+        requires nests { NestsItems self.now.names.now self.now.depth (I.pre self.now.read_item)
+            (I.post self.now.read_item) }
+        requires measured { IsMeasured self.now.depth (items_height (items_seen first.list.tree))
+            first.list.height }
+        ensures reads { Reads (λ m. Upto (items_seen m.list.tree) m.comma)
+            (loop goes_on_series (spec.item_step (names_of self.now.names.now)
+            (spec.initialiser (names_of self.now.names.now) self.now.depth))
+            (Upto (items_seen first.list.tree) first.comma) cursor.old) result cursor.new }
+        ensures height { IfOk result (λ m. IsMeasured self.now.depth
+            (items_height (items_seen m.list.tree)) m.list.height) }
     {
         let mut series = first;
         for _turn in 0..cursor.left() {
@@ -118,9 +138,13 @@ impl<
         cursor: &mut Cursor<'_>,
         brace: Place,
     ) -> Result<Measured<Initialiser>, Stop>
-        requires nests { NestsItems self.now.names.now self.now.depth (I.pre self.now.read_item) (I.post self.now.read_item) }
-        ensures reads { Reads (λ m. initialiser_view m.tree) (spec.initialiser_list (names_of self.now.names.now) (spec.initialiser (names_of self.now.names.now) self.now.depth) brace cursor.old) result cursor.new }
-        ensures height { IfOk result (λ m. IsMeasured (suc self.now.depth) (initialiser_height (initialiser_view m.tree)) m.height) }
+        requires nests { NestsItems self.now.names.now self.now.depth (I.pre self.now.read_item)
+            (I.post self.now.read_item) }
+        ensures reads { Reads (λ m. initialiser_view m.tree) (spec.initialiser_list
+            (names_of self.now.names.now) (spec.initialiser
+            (names_of self.now.names.now) self.now.depth) brace cursor.old) result cursor.new }
+        ensures height { IfOk result (λ m. IsMeasured (suc self.now.depth)
+            (initialiser_height (initialiser_view m.tree)) m.height) }
     {
         let none = Measured {
             tree: Items::new(self.alloc),

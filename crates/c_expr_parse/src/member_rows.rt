@@ -46,10 +46,17 @@ impl<
         cursor: &mut Cursor<'_>,
         mut before: Measured<Items<Declarator>>,
     ) -> Result<Measured<Items<Declarator>>, Stop>
-        requires nests { Nests self.now.names.now self.now.depth (E.pre self.now.read_expr) (E.post self.now.read_expr) (S.pre self.now.read_specifiers) (S.post self.now.read_specifiers) (D.pre self.now.read_declarator) (D.post self.now.read_declarator) }
-        requires measured { IsMeasured self.now.depth (member_declarators_height (declarators_seen before.tree)) before.height }
-        ensures reads { Reads (λ m. declarators_seen m.tree) (spec.next_member (rules (names_of self.now.names.now) self.now.depth) (declarators_seen before.tree) cursor.old) result cursor.new }
-        ensures height { IfOk result (λ m. IsMeasured self.now.depth (member_declarators_height (declarators_seen m.tree)) m.height) }
+        requires nests { Nests self.now.names.now self.now.depth (E.pre self.now.read_expr)
+            (E.post self.now.read_expr) (S.pre self.now.read_specifiers)
+            (S.post self.now.read_specifiers) (D.pre self.now.read_declarator)
+            (D.post self.now.read_declarator) }
+        requires measured { IsMeasured self.now.depth (member_declarators_height
+            (declarators_seen before.tree)) before.height }
+        ensures reads { Reads (λ m. declarators_seen m.tree) (spec.next_member
+            (rules (names_of self.now.names.now) self.now.depth)
+            (declarators_seen before.tree) cursor.old) result cursor.new }
+        ensures height { IfOk result (λ m. IsMeasured self.now.depth
+            (member_declarators_height (declarators_seen m.tree)) m.height) }
     {
         if is_colon(cursor.peek()) {
             return Err(Stop::Unsupported);
@@ -68,10 +75,17 @@ impl<
         cursor: &mut Cursor<'_>,
         before: Measured<Items<Declarator>>,
     ) -> Result<Measured<Items<Declarator>>, Stop>
-        requires nests { Nests self.now.names.now self.now.depth (E.pre self.now.read_expr) (E.post self.now.read_expr) (S.pre self.now.read_specifiers) (S.post self.now.read_specifiers) (D.pre self.now.read_declarator) (D.post self.now.read_declarator) }
-        requires measured { IsMeasured self.now.depth (member_declarators_height (declarators_seen before.tree)) before.height }
-        ensures reads { Reads (λ m. declarators_seen m.tree) (after_skip (spec.next_member (rules (names_of self.now.names.now) self.now.depth) (declarators_seen before.tree)) cursor.old) result cursor.new }
-        ensures height { IfOk result (λ m. IsMeasured self.now.depth (member_declarators_height (declarators_seen m.tree)) m.height) }
+        requires nests { Nests self.now.names.now self.now.depth (E.pre self.now.read_expr)
+            (E.post self.now.read_expr) (S.pre self.now.read_specifiers)
+            (S.post self.now.read_specifiers) (D.pre self.now.read_declarator)
+            (D.post self.now.read_declarator) }
+        requires measured { IsMeasured self.now.depth (member_declarators_height
+            (declarators_seen before.tree)) before.height }
+        ensures reads { Reads (λ m. declarators_seen m.tree) (after_skip
+            (spec.next_member (rules (names_of self.now.names.now) self.now.depth)
+            (declarators_seen before.tree)) cursor.old) result cursor.new }
+        ensures height { IfOk result (λ m. IsMeasured self.now.depth
+            (member_declarators_height (declarators_seen m.tree)) m.height) }
     {
         cursor.skip()?;
         self.next_member(cursor, before)
@@ -82,10 +96,18 @@ impl<
         cursor: &mut Cursor<'_>,
         first: Measured<Items<Declarator>>,
     ) -> Result<Measured<Items<Declarator>>, Stop>
-        requires nests { Nests self.now.names.now self.now.depth (E.pre self.now.read_expr) (E.post self.now.read_expr) (S.pre self.now.read_specifiers) (S.post self.now.read_specifiers) (D.pre self.now.read_declarator) (D.post self.now.read_declarator) }
-        requires measured { IsMeasured self.now.depth (member_declarators_height (declarators_seen first.tree)) first.height }
-        ensures reads { Reads (λ m. declarators_seen m.tree) (loop (λ _. tests.is_comma) (λ before. after_skip (spec.next_member (rules (names_of self.now.names.now) self.now.depth) before)) (declarators_seen first.tree) cursor.old) result cursor.new }
-        ensures height { IfOk result (λ m. IsMeasured self.now.depth (member_declarators_height (declarators_seen m.tree)) m.height) }
+        requires nests { Nests self.now.names.now self.now.depth (E.pre self.now.read_expr)
+            (E.post self.now.read_expr) (S.pre self.now.read_specifiers)
+            (S.post self.now.read_specifiers) (D.pre self.now.read_declarator)
+            (D.post self.now.read_declarator) }
+        requires measured { IsMeasured self.now.depth (member_declarators_height
+            (declarators_seen first.tree)) first.height }
+        ensures reads { Reads (λ m. declarators_seen m.tree) (loop (λ _. tests.is_comma)
+            (λ before. after_skip (spec.next_member (rules
+            (names_of self.now.names.now) self.now.depth) before))
+            (declarators_seen first.tree) cursor.old) result cursor.new }
+        ensures height { IfOk result (λ m. IsMeasured self.now.depth
+            (member_declarators_height (declarators_seen m.tree)) m.height) }
     {
         let mut list = first;
         for _turn in 0..cursor.left() {
@@ -102,9 +124,14 @@ impl<
         &self,
         cursor: &mut Cursor<'_>,
     ) -> Result<Measured<Items<Declarator>>, Stop>
-        requires nests { Nests self.now.names.now self.now.depth (E.pre self.now.read_expr) (E.post self.now.read_expr) (S.pre self.now.read_specifiers) (S.post self.now.read_specifiers) (D.pre self.now.read_declarator) (D.post self.now.read_declarator) }
-        ensures reads { Reads (λ m. declarators_seen m.tree) (spec.member_declarators (rules (names_of self.now.names.now) self.now.depth) cursor.old) result cursor.new }
-        ensures height { IfOk result (λ m. IsMeasured self.now.depth (member_declarators_height (declarators_seen m.tree)) m.height) }
+        requires nests { Nests self.now.names.now self.now.depth (E.pre self.now.read_expr)
+            (E.post self.now.read_expr) (S.pre self.now.read_specifiers)
+            (S.post self.now.read_specifiers) (D.pre self.now.read_declarator)
+            (D.post self.now.read_declarator) }
+        ensures reads { Reads (λ m. declarators_seen m.tree) (spec.member_declarators
+            (rules (names_of self.now.names.now) self.now.depth) cursor.old) result cursor.new }
+        ensures height { IfOk result (λ m. IsMeasured self.now.depth
+            (member_declarators_height (declarators_seen m.tree)) m.height) }
     {
         let none = Measured {
             tree: Items::new(self.alloc),
@@ -121,10 +148,17 @@ impl<
         cursor: &mut Cursor<'_>,
         mut before: Measured<Items<Members>>,
     ) -> Result<Measured<Items<Members>>, Stop>
-        requires nests { Nests self.now.names.now self.now.depth (E.pre self.now.read_expr) (E.post self.now.read_expr) (S.pre self.now.read_specifiers) (S.post self.now.read_specifiers) (D.pre self.now.read_declarator) (D.post self.now.read_declarator) }
-        requires measured { IsMeasured self.now.depth (members_height (members_seen before.tree)) before.height }
-        ensures reads { Reads (λ m. members_seen m.tree) (spec.next_members (rules (names_of self.now.names.now) self.now.depth) (members_seen before.tree) cursor.old) result cursor.new }
-        ensures height { IfOk result (λ m. IsMeasured self.now.depth (members_height (members_seen m.tree)) m.height) }
+        requires nests { Nests self.now.names.now self.now.depth (E.pre self.now.read_expr)
+            (E.post self.now.read_expr) (S.pre self.now.read_specifiers)
+            (S.post self.now.read_specifiers) (D.pre self.now.read_declarator)
+            (D.post self.now.read_declarator) }
+        requires measured { IsMeasured self.now.depth (members_height (members_seen before.tree))
+            before.height }
+        ensures reads { Reads (λ m. members_seen m.tree) (spec.next_members
+            (rules (names_of self.now.names.now) self.now.depth)
+            (members_seen before.tree) cursor.old) result cursor.new }
+        ensures height { IfOk result (λ m. IsMeasured self.now.depth
+            (members_height (members_seen m.tree)) m.height) }
     {
         let specifiers = self.specifiers(cursor, Scope::InType)?;
         let declarators = self.member_declarators(cursor)?;
@@ -143,10 +177,18 @@ impl<
         cursor: &mut Cursor<'_>,
         first: Measured<Items<Members>>,
     ) -> Result<Measured<Items<Members>>, Stop>
-        requires nests { Nests self.now.names.now self.now.depth (E.pre self.now.read_expr) (E.post self.now.read_expr) (S.pre self.now.read_specifiers) (S.post self.now.read_specifiers) (D.pre self.now.read_declarator) (D.post self.now.read_declarator) }
-        requires measured { IsMeasured self.now.depth (members_height (members_seen first.tree)) first.height }
-        ensures reads { Reads (λ m. members_seen m.tree) (loop (λ _. tests.begins_specifier (names_of self.now.names.now) InType) (spec.next_members (rules (names_of self.now.names.now) self.now.depth)) (members_seen first.tree) cursor.old) result cursor.new }
-        ensures height { IfOk result (λ m. IsMeasured self.now.depth (members_height (members_seen m.tree)) m.height) }
+        requires nests { Nests self.now.names.now self.now.depth (E.pre self.now.read_expr)
+            (E.post self.now.read_expr) (S.pre self.now.read_specifiers)
+            (S.post self.now.read_specifiers) (D.pre self.now.read_declarator)
+            (D.post self.now.read_declarator) }
+        requires measured { IsMeasured self.now.depth (members_height (members_seen first.tree))
+            first.height }
+        ensures reads { Reads (λ m. members_seen m.tree) (loop
+            (λ _. tests.begins_specifier (names_of self.now.names.now) InType)
+            (spec.next_members (rules (names_of self.now.names.now) self.now.depth))
+            (members_seen first.tree) cursor.old) result cursor.new }
+        ensures height { IfOk result (λ m. IsMeasured self.now.depth
+            (members_height (members_seen m.tree)) m.height) }
     {
         let mut list = first;
         for _turn in 0..cursor.left() {
@@ -161,9 +203,14 @@ impl<
     /// Rows of members, up to the `}`.
     #[tactic(auto, unfolding(crate::specs::TypeRules::members))]
     pub fn members(&self, cursor: &mut Cursor<'_>) -> Result<Measured<Items<Members>>, Stop>
-        requires nests { Nests self.now.names.now self.now.depth (E.pre self.now.read_expr) (E.post self.now.read_expr) (S.pre self.now.read_specifiers) (S.post self.now.read_specifiers) (D.pre self.now.read_declarator) (D.post self.now.read_declarator) }
-        ensures reads { Reads (λ m. members_seen m.tree) (spec.members (names_of self.now.names.now) (rules (names_of self.now.names.now) self.now.depth) cursor.old) result cursor.new }
-        ensures height { IfOk result (λ m. IsMeasured self.now.depth (members_height (members_seen m.tree)) m.height) }
+        requires nests { Nests self.now.names.now self.now.depth (E.pre self.now.read_expr)
+            (E.post self.now.read_expr) (S.pre self.now.read_specifiers)
+            (S.post self.now.read_specifiers) (D.pre self.now.read_declarator)
+            (D.post self.now.read_declarator) }
+        ensures reads { Reads (λ m. members_seen m.tree) (spec.members (names_of self.now.names.now)
+            (rules (names_of self.now.names.now) self.now.depth) cursor.old) result cursor.new }
+        ensures height { IfOk result (λ m. IsMeasured self.now.depth
+            (members_height (members_seen m.tree)) m.height) }
     {
         let none = Measured {
             tree: Items::new(self.alloc),

@@ -25,7 +25,8 @@ pub fn read_expr(
     depth: u16,
     least: u8,
 ) -> Result<Measured<Expr>, Stop>
-    ensures reads { Reads (λ m. expr_view m.tree) ((rules (names_of names.now) depth).expr least cursor.old) result cursor.new }
+    ensures reads { Reads (λ m. expr_view m.tree) ((rules (names_of names.now) depth).expr least
+        cursor.old) result cursor.new }
     ensures height { IfOk result (λ m. IsMeasured depth (expr_height (expr_view m.tree)) m.height) }
 {
     if depth == 0 {
@@ -51,8 +52,10 @@ pub fn read_specifiers(
     depth: u16,
     scope: Scope,
 ) -> Result<Measured<Specifiers>, Stop>
-    ensures reads { Reads (λ m. specifiers_view m.tree) ((rules (names_of names.now) depth).specifiers (scope_view scope) cursor.old) result cursor.new }
-    ensures height { IfOk result (λ m. IsMeasured depth (suc (specifiers_height (specifiers_view m.tree))) m.height) }
+    ensures reads { Reads (λ m. specifiers_view m.tree) ((rules
+        (names_of names.now) depth).specifiers (scope_view scope) cursor.old) result cursor.new }
+    ensures height { IfOk result (λ m. IsMeasured depth
+        (suc (specifiers_height (specifiers_view m.tree))) m.height) }
 {
     if depth == 0 {
         return Err(too_deep(begins_specifier(names, scope, cursor.peek())));
@@ -77,8 +80,10 @@ pub fn read_declarator(
     depth: u16,
     naming: Naming,
 ) -> Result<Measured<Declarator>, Stop>
-    ensures reads { Reads (λ m. declarator_view m.tree) ((rules (names_of names.now) depth).declarator (naming_view naming) cursor.old) result cursor.new }
-    ensures height { IfOk result (λ m. IsMeasured depth (declarator_height (declarator_view m.tree)) m.height) }
+    ensures reads { Reads (λ m. declarator_view m.tree) ((rules
+        (names_of names.now) depth).declarator (naming_view naming) cursor.old) result cursor.new }
+    ensures height { IfOk result (λ m. IsMeasured depth
+        (declarator_height (declarator_view m.tree)) m.height) }
 {
     if depth == 0 {
         return Err(too_deep(begins_declarator(names, naming, cursor.peek())));

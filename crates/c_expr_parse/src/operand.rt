@@ -51,10 +51,17 @@ impl<
 > Grammar<'a, E, S, D> {
     /// An expression of one token, and what goes on from it.
     fn leaf(&self, cursor: &mut Cursor<'_>, tree: Expr) -> Result<Measured<Expr>, Stop>
-        requires nests { Nests self.now.names.now self.now.depth (E.pre self.now.read_expr) (E.post self.now.read_expr) (S.pre self.now.read_specifiers) (S.post self.now.read_specifiers) (D.pre self.now.read_declarator) (D.post self.now.read_declarator) }
+        requires nests { Nests self.now.names.now self.now.depth (E.pre self.now.read_expr)
+            (E.post self.now.read_expr) (S.pre self.now.read_specifiers)
+            (S.post self.now.read_specifiers) (D.pre self.now.read_declarator)
+            (D.post self.now.read_declarator) }
         requires leaf { expr_height (expr_view tree) ≡ 1 }
-        ensures reads { Reads (λ m. expr_view m.tree) (after_skip (spec.postfix (names_of self.now.names.now) self.now.depth (rules (names_of self.now.names.now) self.now.depth) (expr_view tree)) cursor.old) result cursor.new }
-        ensures height { IfOk result (λ m. IsMeasured (suc self.now.depth) (expr_height (expr_view m.tree)) m.height) }
+        ensures reads { Reads (λ m. expr_view m.tree) (after_skip
+            (spec.postfix (names_of self.now.names.now) self.now.depth
+            (rules (names_of self.now.names.now) self.now.depth) (expr_view tree)) cursor.old)
+            result cursor.new }
+        ensures height { IfOk result (λ m. IsMeasured (suc self.now.depth)
+            (expr_height (expr_view m.tree)) m.height) }
     {
         cursor.skip()?;
         self.postfix(cursor, Measured { tree, height: 1 })
@@ -67,9 +74,17 @@ impl<
         bytes: &[u8],
         place: Place,
     ) -> Result<Measured<Expr>, Stop>
-        requires nests { Nests self.now.names.now self.now.depth (E.pre self.now.read_expr) (E.post self.now.read_expr) (S.pre self.now.read_specifiers) (S.post self.now.read_specifiers) (D.pre self.now.read_declarator) (D.post self.now.read_declarator) }
-        ensures reads { Reads (λ m. expr_view m.tree) (spec.operand_from (names_of self.now.names.now) self.now.depth (rules (names_of self.now.names.now) self.now.depth) 0 (tests.StartName (record { bytes = bytes.now; place = place })) cursor.old) result cursor.new }
-        ensures height { IfOk result (λ m. IsMeasured (suc self.now.depth) (expr_height (expr_view m.tree)) m.height) }
+        requires nests { Nests self.now.names.now self.now.depth (E.pre self.now.read_expr)
+            (E.post self.now.read_expr) (S.pre self.now.read_specifiers)
+            (S.post self.now.read_specifiers) (D.pre self.now.read_declarator)
+            (D.post self.now.read_declarator) }
+        ensures reads { Reads (λ m. expr_view m.tree) (spec.operand_from
+            (names_of self.now.names.now) self.now.depth
+            (rules (names_of self.now.names.now) self.now.depth) 0
+            (tests.StartName (record { bytes = bytes.now; place = place })) cursor.old) result
+            cursor.new }
+        ensures height { IfOk result (λ m. IsMeasured (suc self.now.depth)
+            (expr_height (expr_view m.tree)) m.height) }
     {
         let name = Identifier {
             bytes: Items::from_slice(self.alloc, bytes)?,
@@ -86,9 +101,17 @@ impl<
         bytes: &[u8],
         place: Place,
     ) -> Result<Measured<Expr>, Stop>
-        requires nests { Nests self.now.names.now self.now.depth (E.pre self.now.read_expr) (E.post self.now.read_expr) (S.pre self.now.read_specifiers) (S.post self.now.read_specifiers) (D.pre self.now.read_declarator) (D.post self.now.read_declarator) }
-        ensures reads { Reads (λ m. expr_view m.tree) (spec.operand_from (names_of self.now.names.now) self.now.depth (rules (names_of self.now.names.now) self.now.depth) 0 (tests.StartString (record { bytes = bytes.now; place = place })) cursor.old) result cursor.new }
-        ensures height { IfOk result (λ m. IsMeasured (suc self.now.depth) (expr_height (expr_view m.tree)) m.height) }
+        requires nests { Nests self.now.names.now self.now.depth (E.pre self.now.read_expr)
+            (E.post self.now.read_expr) (S.pre self.now.read_specifiers)
+            (S.post self.now.read_specifiers) (D.pre self.now.read_declarator)
+            (D.post self.now.read_declarator) }
+        ensures reads { Reads (λ m. expr_view m.tree) (spec.operand_from
+            (names_of self.now.names.now) self.now.depth
+            (rules (names_of self.now.names.now) self.now.depth) 0
+            (tests.StartString (record { bytes = bytes.now; place = place })) cursor.old) result
+            cursor.new }
+        ensures height { IfOk result (λ m. IsMeasured (suc self.now.depth)
+            (expr_height (expr_view m.tree)) m.height) }
     {
         cursor.skip()?;
         let mut first = Items::new(self.alloc);
@@ -104,9 +127,15 @@ impl<
     /// After the `(` of an expression in parentheses.
     #[tactic(auto, using(c_tree::proofs::ViewLaws::expr_views), unfolding(crate::specs::ExprRules::after_paren))]
     fn after_paren(&self, cursor: &mut Cursor<'_>, at: Place) -> Result<Measured<Expr>, Stop>
-        requires nests { Nests self.now.names.now self.now.depth (E.pre self.now.read_expr) (E.post self.now.read_expr) (S.pre self.now.read_specifiers) (S.post self.now.read_specifiers) (D.pre self.now.read_declarator) (D.post self.now.read_declarator) }
-        ensures reads { Reads (λ m. expr_view m.tree) (spec.after_paren (names_of self.now.names.now) self.now.depth (rules (names_of self.now.names.now) self.now.depth) at cursor.old) result cursor.new }
-        ensures height { IfOk result (λ m. IsMeasured (suc self.now.depth) (expr_height (expr_view m.tree)) m.height) }
+        requires nests { Nests self.now.names.now self.now.depth (E.pre self.now.read_expr)
+            (E.post self.now.read_expr) (S.pre self.now.read_specifiers)
+            (S.post self.now.read_specifiers) (D.pre self.now.read_declarator)
+            (D.post self.now.read_declarator) }
+        ensures reads { Reads (λ m. expr_view m.tree) (spec.after_paren
+            (names_of self.now.names.now) self.now.depth
+            (rules (names_of self.now.names.now) self.now.depth) at cursor.old) result cursor.new }
+        ensures height { IfOk result (λ m. IsMeasured (suc self.now.depth)
+            (expr_height (expr_view m.tree)) m.height) }
     {
         let e = boxed(self.alloc, self.expr(cursor, 0)?)?;
         let close = is_close_paren(cursor.peek());
@@ -124,10 +153,17 @@ impl<
         at: Place,
         to: Measured<TypeName>,
     ) -> Result<Measured<Expr>, Stop>
-        requires nests { Nests self.now.names.now self.now.depth (E.pre self.now.read_expr) (E.post self.now.read_expr) (S.pre self.now.read_specifiers) (S.post self.now.read_specifiers) (D.pre self.now.read_declarator) (D.post self.now.read_declarator) }
-        requires measured { IsMeasured self.now.depth (type_name_height (type_name_view to.tree)) to.height }
-        ensures reads { Reads (λ m. expr_view m.tree) (operands.cast_to (rules (names_of self.now.names.now) self.now.depth) at (type_name_view to.tree) cursor.old) result cursor.new }
-        ensures height { IfOk result (λ m. IsMeasured (suc self.now.depth) (expr_height (expr_view m.tree)) m.height) }
+        requires nests { Nests self.now.names.now self.now.depth (E.pre self.now.read_expr)
+            (E.post self.now.read_expr) (S.pre self.now.read_specifiers)
+            (S.post self.now.read_specifiers) (D.pre self.now.read_declarator)
+            (D.post self.now.read_declarator) }
+        requires measured { IsMeasured self.now.depth (type_name_height (type_name_view to.tree))
+            to.height }
+        ensures reads { Reads (λ m. expr_view m.tree) (operands.cast_to
+            (rules (names_of self.now.names.now) self.now.depth) at
+            (type_name_view to.tree) cursor.old) result cursor.new }
+        ensures height { IfOk result (λ m. IsMeasured (suc self.now.depth)
+            (expr_height (expr_view m.tree)) m.height) }
     {
         if open_brace(cursor.peek()).is_some() {
             return Err(Stop::Unsupported);
@@ -143,9 +179,15 @@ impl<
     /// After the `(` of a cast.
     #[tactic(auto, unfolding(crate::specs::ExprRules::after_cast_paren))]
     fn after_cast_paren(&self, cursor: &mut Cursor<'_>, at: Place) -> Result<Measured<Expr>, Stop>
-        requires nests { Nests self.now.names.now self.now.depth (E.pre self.now.read_expr) (E.post self.now.read_expr) (S.pre self.now.read_specifiers) (S.post self.now.read_specifiers) (D.pre self.now.read_declarator) (D.post self.now.read_declarator) }
-        ensures reads { Reads (λ m. expr_view m.tree) (spec.after_cast_paren (names_of self.now.names.now) (rules (names_of self.now.names.now) self.now.depth) at cursor.old) result cursor.new }
-        ensures height { IfOk result (λ m. IsMeasured (suc self.now.depth) (expr_height (expr_view m.tree)) m.height) }
+        requires nests { Nests self.now.names.now self.now.depth (E.pre self.now.read_expr)
+            (E.post self.now.read_expr) (S.pre self.now.read_specifiers)
+            (S.post self.now.read_specifiers) (D.pre self.now.read_declarator)
+            (D.post self.now.read_declarator) }
+        ensures reads { Reads (λ m. expr_view m.tree) (spec.after_cast_paren
+            (names_of self.now.names.now) (rules (names_of self.now.names.now) self.now.depth) at
+            cursor.old) result cursor.new }
+        ensures height { IfOk result (λ m. IsMeasured (suc self.now.depth)
+            (expr_height (expr_view m.tree)) m.height) }
     {
         let to = self.type_name(cursor)?;
         let close = is_close_paren(cursor.peek());
@@ -160,9 +202,16 @@ impl<
         least: u8,
         at: Place,
     ) -> Result<Measured<Expr>, Stop>
-        requires nests { Nests self.now.names.now self.now.depth (E.pre self.now.read_expr) (E.post self.now.read_expr) (S.pre self.now.read_specifiers) (S.post self.now.read_specifiers) (D.pre self.now.read_declarator) (D.post self.now.read_declarator) }
-        ensures reads { Reads (λ m. expr_view m.tree) (spec.operand_from (names_of self.now.names.now) self.now.depth (rules (names_of self.now.names.now) self.now.depth) least (tests.StartParen at) cursor.old) result cursor.new }
-        ensures height { IfOk result (λ m. IsMeasured (suc self.now.depth) (expr_height (expr_view m.tree)) m.height) }
+        requires nests { Nests self.now.names.now self.now.depth (E.pre self.now.read_expr)
+            (E.post self.now.read_expr) (S.pre self.now.read_specifiers)
+            (S.post self.now.read_specifiers) (D.pre self.now.read_declarator)
+            (D.post self.now.read_declarator) }
+        ensures reads { Reads (λ m. expr_view m.tree) (spec.operand_from
+            (names_of self.now.names.now) self.now.depth
+            (rules (names_of self.now.names.now) self.now.depth) least
+            (tests.StartParen at) cursor.old) result cursor.new }
+        ensures height { IfOk result (λ m. IsMeasured (suc self.now.depth)
+            (expr_height (expr_view m.tree)) m.height) }
     {
         cursor.skip()?;
         if begins_cast(self.names, least, cursor.peek()) {
@@ -180,9 +229,15 @@ impl<
         op: Unary,
         at: Place,
     ) -> Result<Measured<Expr>, Stop>
-        requires nests { Nests self.now.names.now self.now.depth (E.pre self.now.read_expr) (E.post self.now.read_expr) (S.pre self.now.read_specifiers) (S.post self.now.read_specifiers) (D.pre self.now.read_declarator) (D.post self.now.read_declarator) }
-        ensures reads { Reads (λ m. expr_view m.tree) (operands.prefixed (rules (names_of self.now.names.now) self.now.depth) op at cursor.old) result cursor.new }
-        ensures height { IfOk result (λ m. IsMeasured (suc self.now.depth) (expr_height (expr_view m.tree)) m.height) }
+        requires nests { Nests self.now.names.now self.now.depth (E.pre self.now.read_expr)
+            (E.post self.now.read_expr) (S.pre self.now.read_specifiers)
+            (S.post self.now.read_specifiers) (D.pre self.now.read_declarator)
+            (D.post self.now.read_declarator) }
+        ensures reads { Reads (λ m. expr_view m.tree) (operands.prefixed
+            (rules (names_of self.now.names.now) self.now.depth) op at cursor.old) result
+            cursor.new }
+        ensures height { IfOk result (λ m. IsMeasured (suc self.now.depth)
+            (expr_height (expr_view m.tree)) m.height) }
     {
         let e = self.expr(cursor, operand_level(op))?;
         Ok(Measured {
@@ -194,9 +249,14 @@ impl<
     /// A unary expression in place of the operand of `sizeof`, whose `(` was read.
     #[tactic(auto, using(crate::proofs::Below::below))]
     fn paren_below(&self, cursor: &mut Cursor<'_>, at: Place) -> Result<Measured<Expr>, Stop>
-        requires nests { Nests self.now.names.now self.now.depth (E.pre self.now.read_expr) (E.post self.now.read_expr) (S.pre self.now.read_specifiers) (S.post self.now.read_specifiers) (D.pre self.now.read_declarator) (D.post self.now.read_declarator) }
-        ensures reads { Reads (λ m. expr_view m.tree) ((rules (names_of self.now.names.now) self.now.depth).paren at cursor.old) result cursor.new }
-        ensures height { IfOk result (λ m. IsMeasured self.now.depth (expr_height (expr_view m.tree)) m.height) }
+        requires nests { Nests self.now.names.now self.now.depth (E.pre self.now.read_expr)
+            (E.post self.now.read_expr) (S.pre self.now.read_specifiers)
+            (S.post self.now.read_specifiers) (D.pre self.now.read_declarator)
+            (D.post self.now.read_declarator) }
+        ensures reads { Reads (λ m. expr_view m.tree) ((rules (names_of self.now.names.now)
+            self.now.depth).paren at cursor.old) result cursor.new }
+        ensures height { IfOk result (λ m. IsMeasured self.now.depth
+            (expr_height (expr_view m.tree)) m.height) }
     {
         if self.depth == 0 {
             return Err(too_deep(begins_expr(self.names, cursor.peek())));
@@ -220,10 +280,17 @@ impl<
         at: Place,
         paren: Place,
     ) -> Result<Measured<Expr>, Stop>
-        requires nests { Nests self.now.names.now self.now.depth (E.pre self.now.read_expr) (E.post self.now.read_expr) (S.pre self.now.read_specifiers) (S.post self.now.read_specifiers) (D.pre self.now.read_declarator) (D.post self.now.read_declarator) }
-        requires begins { tests.begins_type (names_of self.now.names.now) (first cursor.old) ≡ true }
-        ensures reads { Reads (λ m. expr_view m.tree) (spec.after_sizeof_paren (names_of self.now.names.now) (rules (names_of self.now.names.now) self.now.depth) at paren cursor.old) result cursor.new }
-        ensures height { IfOk result (λ m. IsMeasured (suc self.now.depth) (expr_height (expr_view m.tree)) m.height) }
+        requires nests { Nests self.now.names.now self.now.depth (E.pre self.now.read_expr)
+            (E.post self.now.read_expr) (S.pre self.now.read_specifiers)
+            (S.post self.now.read_specifiers) (D.pre self.now.read_declarator)
+            (D.post self.now.read_declarator) }
+        requires begins { tests.begins_type (names_of self.now.names.now) (first cursor.old)
+            ≡ true }
+        ensures reads { Reads (λ m. expr_view m.tree) (spec.after_sizeof_paren
+            (names_of self.now.names.now) (rules (names_of self.now.names.now) self.now.depth) at
+            paren cursor.old) result cursor.new }
+        ensures height { IfOk result (λ m. IsMeasured (suc self.now.depth)
+            (expr_height (expr_view m.tree)) m.height) }
     {
         let name = boxed(self.alloc, self.type_name(cursor)?)?;
         let close = is_close_paren(cursor.peek());
@@ -244,9 +311,15 @@ impl<
         at: Place,
         paren: Place,
     ) -> Result<Measured<Expr>, Stop>
-        requires nests { Nests self.now.names.now self.now.depth (E.pre self.now.read_expr) (E.post self.now.read_expr) (S.pre self.now.read_specifiers) (S.post self.now.read_specifiers) (D.pre self.now.read_declarator) (D.post self.now.read_declarator) }
-        ensures reads { Reads (λ m. expr_view m.tree) (spec.after_sizeof_paren (names_of self.now.names.now) (rules (names_of self.now.names.now) self.now.depth) at paren cursor.old) result cursor.new }
-        ensures height { IfOk result (λ m. IsMeasured (suc self.now.depth) (expr_height (expr_view m.tree)) m.height) }
+        requires nests { Nests self.now.names.now self.now.depth (E.pre self.now.read_expr)
+            (E.post self.now.read_expr) (S.pre self.now.read_specifiers)
+            (S.post self.now.read_specifiers) (D.pre self.now.read_declarator)
+            (D.post self.now.read_declarator) }
+        ensures reads { Reads (λ m. expr_view m.tree) (spec.after_sizeof_paren
+            (names_of self.now.names.now) (rules (names_of self.now.names.now) self.now.depth) at
+            paren cursor.old) result cursor.new }
+        ensures height { IfOk result (λ m. IsMeasured (suc self.now.depth)
+            (expr_height (expr_view m.tree)) m.height) }
     {
         if begins_specifier(self.names, Scope::InType, cursor.peek()) {
             return self.size_of_type(cursor, at, paren);
@@ -260,9 +333,15 @@ impl<
 
     #[tactic(auto, unfolding(crate::specs::ExprRules::after_sizeof))]
     fn after_sizeof(&self, cursor: &mut Cursor<'_>, at: Place) -> Result<Measured<Expr>, Stop>
-        requires nests { Nests self.now.names.now self.now.depth (E.pre self.now.read_expr) (E.post self.now.read_expr) (S.pre self.now.read_specifiers) (S.post self.now.read_specifiers) (D.pre self.now.read_declarator) (D.post self.now.read_declarator) }
-        ensures reads { Reads (λ m. expr_view m.tree) (by_first tests.open_paren (spec.after_sizeof (names_of self.now.names.now) (rules (names_of self.now.names.now) self.now.depth) at) cursor.old) result cursor.new }
-        ensures height { IfOk result (λ m. IsMeasured (suc self.now.depth) (expr_height (expr_view m.tree)) m.height) }
+        requires nests { Nests self.now.names.now self.now.depth (E.pre self.now.read_expr)
+            (E.post self.now.read_expr) (S.pre self.now.read_specifiers)
+            (S.post self.now.read_specifiers) (D.pre self.now.read_declarator)
+            (D.post self.now.read_declarator) }
+        ensures reads { Reads (λ m. expr_view m.tree) (by_first tests.open_paren
+            (spec.after_sizeof (names_of self.now.names.now)
+            (rules (names_of self.now.names.now) self.now.depth) at) cursor.old) result cursor.new }
+        ensures height { IfOk result (λ m. IsMeasured (suc self.now.depth)
+            (expr_height (expr_view m.tree)) m.height) }
     {
         let Some(paren) = open_paren(cursor.peek()) else {
             return self.prefixed(cursor, Unary::SizeOf, at);
@@ -278,9 +357,16 @@ impl<
         least: u8,
         start: Start<'_>,
     ) -> Result<Measured<Expr>, Stop>
-        requires nests { Nests self.now.names.now self.now.depth (E.pre self.now.read_expr) (E.post self.now.read_expr) (S.pre self.now.read_specifiers) (S.post self.now.read_specifiers) (D.pre self.now.read_declarator) (D.post self.now.read_declarator) }
-        ensures reads { Reads (λ m. expr_view m.tree) (spec.operand_from (names_of self.now.names.now) self.now.depth (rules (names_of self.now.names.now) self.now.depth) least (start_view start.entry) cursor.old) result cursor.new }
-        ensures height { IfOk result (λ m. IsMeasured (suc self.now.depth) (expr_height (expr_view m.tree)) m.height) }
+        requires nests { Nests self.now.names.now self.now.depth (E.pre self.now.read_expr)
+            (E.post self.now.read_expr) (S.pre self.now.read_specifiers)
+            (S.post self.now.read_specifiers) (D.pre self.now.read_declarator)
+            (D.post self.now.read_declarator) }
+        ensures reads { Reads (λ m. expr_view m.tree) (spec.operand_from
+            (names_of self.now.names.now) self.now.depth
+            (rules (names_of self.now.names.now) self.now.depth) least
+            (start_view start.entry) cursor.old) result cursor.new }
+        ensures height { IfOk result (λ m. IsMeasured (suc self.now.depth)
+            (expr_height (expr_view m.tree)) m.height) }
     {
         match start {
             Start::Name(bytes, place) => self.name(cursor, bytes, place),
@@ -305,9 +391,16 @@ impl<
     /// An operand of at least a level, by its first token.
     #[tactic(auto, unfolding(crate::specs::ExprRules::operand))]
     pub fn operand(&self, cursor: &mut Cursor<'_>, least: u8) -> Result<Measured<Expr>, Stop>
-        requires nests { Nests self.now.names.now self.now.depth (E.pre self.now.read_expr) (E.post self.now.read_expr) (S.pre self.now.read_specifiers) (S.post self.now.read_specifiers) (D.pre self.now.read_declarator) (D.post self.now.read_declarator) }
-        ensures reads { Reads (λ m. expr_view m.tree) (spec.operand (names_of self.now.names.now) self.now.depth (rules (names_of self.now.names.now) self.now.depth) least cursor.old) result cursor.new }
-        ensures height { IfOk result (λ m. IsMeasured (suc self.now.depth) (expr_height (expr_view m.tree)) m.height) }
+        requires nests { Nests self.now.names.now self.now.depth (E.pre self.now.read_expr)
+            (E.post self.now.read_expr) (S.pre self.now.read_specifiers)
+            (S.post self.now.read_specifiers) (D.pre self.now.read_declarator)
+            (D.post self.now.read_declarator) }
+        ensures reads { Reads (λ m. expr_view m.tree) (spec.operand
+            (names_of self.now.names.now) self.now.depth
+            (rules (names_of self.now.names.now) self.now.depth) least cursor.old) result
+            cursor.new }
+        ensures height { IfOk result (λ m. IsMeasured (suc self.now.depth)
+            (expr_height (expr_view m.tree)) m.height) }
     {
         let start = next_start(self.names, cursor.peek());
         self.operand_from(cursor, least, start)

@@ -44,10 +44,17 @@ impl<
         cursor: &mut Cursor<'_>,
         mut before: Measured<Items<Parameter>>,
     ) -> Result<Measured<Items<Parameter>>, Stop>
-        requires nests { Nests self.now.names.now self.now.depth (E.pre self.now.read_expr) (E.post self.now.read_expr) (S.pre self.now.read_specifiers) (S.post self.now.read_specifiers) (D.pre self.now.read_declarator) (D.post self.now.read_declarator) }
-        requires measured { IsMeasured self.now.depth (parameters_height (parameters_seen before.tree)) before.height }
-        ensures reads { Reads (λ m. parameters_seen m.tree) (spec.next_parameter (names_of self.now.names.now) (rules (names_of self.now.names.now) self.now.depth) (parameters_seen before.tree) cursor.old) result cursor.new }
-        ensures height { IfOk result (λ m. IsMeasured self.now.depth (parameters_height (parameters_seen m.tree)) m.height) }
+        requires nests { Nests self.now.names.now self.now.depth (E.pre self.now.read_expr)
+            (E.post self.now.read_expr) (S.pre self.now.read_specifiers)
+            (S.post self.now.read_specifiers) (D.pre self.now.read_declarator)
+            (D.post self.now.read_declarator) }
+        requires measured { IsMeasured self.now.depth (parameters_height
+            (parameters_seen before.tree)) before.height }
+        ensures reads { Reads (λ m. parameters_seen m.tree) (spec.next_parameter
+            (names_of self.now.names.now) (rules (names_of self.now.names.now) self.now.depth)
+            (parameters_seen before.tree) cursor.old) result cursor.new }
+        ensures height { IfOk result (λ m. IsMeasured self.now.depth
+            (parameters_height (parameters_seen m.tree)) m.height) }
     {
         let specifiers = self.specifiers(cursor, Scope::InBlock)?;
         let declared = self.declared(cursor, Naming::WithOrWithout)?;
@@ -64,10 +71,18 @@ impl<
         cursor: &mut Cursor<'_>,
         before: Measured<Items<Parameter>>,
     ) -> Result<Measured<Items<Parameter>>, Stop>
-        requires nests { Nests self.now.names.now self.now.depth (E.pre self.now.read_expr) (E.post self.now.read_expr) (S.pre self.now.read_specifiers) (S.post self.now.read_specifiers) (D.pre self.now.read_declarator) (D.post self.now.read_declarator) }
-        requires measured { IsMeasured self.now.depth (parameters_height (parameters_seen before.tree)) before.height }
-        ensures reads { Reads (λ m. parameters_seen m.tree) (after_skip (spec.next_parameter (names_of self.now.names.now) (rules (names_of self.now.names.now) self.now.depth) (parameters_seen before.tree)) cursor.old) result cursor.new }
-        ensures height { IfOk result (λ m. IsMeasured self.now.depth (parameters_height (parameters_seen m.tree)) m.height) }
+        requires nests { Nests self.now.names.now self.now.depth (E.pre self.now.read_expr)
+            (E.post self.now.read_expr) (S.pre self.now.read_specifiers)
+            (S.post self.now.read_specifiers) (D.pre self.now.read_declarator)
+            (D.post self.now.read_declarator) }
+        requires measured { IsMeasured self.now.depth (parameters_height
+            (parameters_seen before.tree)) before.height }
+        ensures reads { Reads (λ m. parameters_seen m.tree) (after_skip
+            (spec.next_parameter (names_of self.now.names.now)
+            (rules (names_of self.now.names.now) self.now.depth) (parameters_seen before.tree))
+            cursor.old) result cursor.new }
+        ensures height { IfOk result (λ m. IsMeasured self.now.depth
+            (parameters_height (parameters_seen m.tree)) m.height) }
     {
         cursor.skip()?;
         self.next_parameter(cursor, before)
@@ -78,10 +93,18 @@ impl<
         cursor: &mut Cursor<'_>,
         first: Measured<Items<Parameter>>,
     ) -> Result<Measured<Items<Parameter>>, Stop>
-        requires nests { Nests self.now.names.now self.now.depth (E.pre self.now.read_expr) (E.post self.now.read_expr) (S.pre self.now.read_specifiers) (S.post self.now.read_specifiers) (D.pre self.now.read_declarator) (D.post self.now.read_declarator) }
-        requires measured { IsMeasured self.now.depth (parameters_height (parameters_seen first.tree)) first.height }
-        ensures reads { Reads (λ m. parameters_seen m.tree) (loop (λ _. tests.is_comma) (λ before. after_skip (spec.next_parameter (names_of self.now.names.now) (rules (names_of self.now.names.now) self.now.depth) before)) (parameters_seen first.tree) cursor.old) result cursor.new }
-        ensures height { IfOk result (λ m. IsMeasured self.now.depth (parameters_height (parameters_seen m.tree)) m.height) }
+        requires nests { Nests self.now.names.now self.now.depth (E.pre self.now.read_expr)
+            (E.post self.now.read_expr) (S.pre self.now.read_specifiers)
+            (S.post self.now.read_specifiers) (D.pre self.now.read_declarator)
+            (D.post self.now.read_declarator) }
+        requires measured { IsMeasured self.now.depth (parameters_height
+            (parameters_seen first.tree)) first.height }
+        ensures reads { Reads (λ m. parameters_seen m.tree) (loop (λ _. tests.is_comma)
+            (λ before. after_skip (spec.next_parameter (names_of self.now.names.now)
+            (rules (names_of self.now.names.now) self.now.depth) before))
+            (parameters_seen first.tree) cursor.old) result cursor.new }
+        ensures height { IfOk result (λ m. IsMeasured self.now.depth
+            (parameters_height (parameters_seen m.tree)) m.height) }
     {
         let mut list = first;
         for _turn in 0..cursor.left() {
@@ -96,9 +119,15 @@ impl<
     /// Parameters, up to the `)`.
     #[tactic(auto, unfolding(crate::specs::DeclaratorRules::parameters))]
     pub fn parameters(&self, cursor: &mut Cursor<'_>) -> Result<Measured<Items<Parameter>>, Stop>
-        requires nests { Nests self.now.names.now self.now.depth (E.pre self.now.read_expr) (E.post self.now.read_expr) (S.pre self.now.read_specifiers) (S.post self.now.read_specifiers) (D.pre self.now.read_declarator) (D.post self.now.read_declarator) }
-        ensures reads { Reads (λ m. parameters_seen m.tree) (spec.parameters (names_of self.now.names.now) (rules (names_of self.now.names.now) self.now.depth) cursor.old) result cursor.new }
-        ensures height { IfOk result (λ m. IsMeasured self.now.depth (parameters_height (parameters_seen m.tree)) m.height) }
+        requires nests { Nests self.now.names.now self.now.depth (E.pre self.now.read_expr)
+            (E.post self.now.read_expr) (S.pre self.now.read_specifiers)
+            (S.post self.now.read_specifiers) (D.pre self.now.read_declarator)
+            (D.post self.now.read_declarator) }
+        ensures reads { Reads (λ m. parameters_seen m.tree) (spec.parameters
+            (names_of self.now.names.now) (rules (names_of self.now.names.now) self.now.depth)
+            cursor.old) result cursor.new }
+        ensures height { IfOk result (λ m. IsMeasured self.now.depth
+            (parameters_height (parameters_seen m.tree)) m.height) }
     {
         let none = Measured {
             tree: Items::new(self.alloc),

@@ -31,8 +31,10 @@ fn without_size(
     words: ArrayWords,
 ) -> Result<Measured<Items<Part>>, Stop>
     requires { AreArrayWords words.list words.has_static }
-    ensures reads { Reads (λ m. parts_seen m.tree) (spec.without_size (parts_seen before.tree) at words.list cursor.old) result cursor.new }
-    ensures height { IfOk result (λ m. (m.height ≡ before.height) × (parts_height (parts_seen m.tree) ≡ parts_height (parts_seen before.tree))) }
+    ensures reads { Reads (λ m. parts_seen m.tree) (spec.without_size
+        (parts_seen before.tree) at words.list cursor.old) result cursor.new }
+    ensures height { IfOk result (λ m. (m.height ≡ before.height)
+        × (parts_height (parts_seen m.tree) ≡ parts_height (parts_seen before.tree))) }
 {
     if words.has_static {
         return Err(Stop::Syntax);
@@ -69,10 +71,17 @@ impl<
         mut before: Measured<Items<Part>>,
         at: Place,
     ) -> Result<Measured<Items<Part>>, Stop>
-        requires nests { Nests self.now.names.now self.now.depth (E.pre self.now.read_expr) (E.post self.now.read_expr) (S.pre self.now.read_specifiers) (S.post self.now.read_specifiers) (D.pre self.now.read_declarator) (D.post self.now.read_declarator) }
-        requires measured { IsMeasured self.now.depth (parts_height (parts_seen before.tree)) before.height }
-        ensures reads { Reads (λ m. parts_seen m.tree) (spec.array_part (names_of self.now.names.now) (rules (names_of self.now.names.now) self.now.depth) (parts_seen before.tree) at cursor.old) result cursor.new }
-        ensures height { IfOk result (λ m. IsMeasured self.now.depth (parts_height (parts_seen m.tree)) m.height) }
+        requires nests { Nests self.now.names.now self.now.depth (E.pre self.now.read_expr)
+            (E.post self.now.read_expr) (S.pre self.now.read_specifiers)
+            (S.post self.now.read_specifiers) (D.pre self.now.read_declarator)
+            (D.post self.now.read_declarator) }
+        requires measured { IsMeasured self.now.depth (parts_height (parts_seen before.tree))
+            before.height }
+        ensures reads { Reads (λ m. parts_seen m.tree) (spec.array_part
+            (names_of self.now.names.now) (rules (names_of self.now.names.now) self.now.depth)
+            (parts_seen before.tree) at cursor.old) result cursor.new }
+        ensures height { IfOk result (λ m. IsMeasured self.now.depth
+            (parts_height (parts_seen m.tree)) m.height) }
     {
         let words = array_words(self.alloc, cursor)?;
         if !begins_expr(self.names, cursor.peek()) {
@@ -94,10 +103,17 @@ impl<
         mut before: Measured<Items<Part>>,
         at: Place,
     ) -> Result<Measured<Items<Part>>, Stop>
-        requires nests { Nests self.now.names.now self.now.depth (E.pre self.now.read_expr) (E.post self.now.read_expr) (S.pre self.now.read_specifiers) (S.post self.now.read_specifiers) (D.pre self.now.read_declarator) (D.post self.now.read_declarator) }
-        requires measured { IsMeasured self.now.depth (parts_height (parts_seen before.tree)) before.height }
-        ensures reads { Reads (λ m. parts_seen m.tree) (spec.function_part (names_of self.now.names.now) (rules (names_of self.now.names.now) self.now.depth) (parts_seen before.tree) at cursor.old) result cursor.new }
-        ensures height { IfOk result (λ m. IsMeasured self.now.depth (parts_height (parts_seen m.tree)) m.height) }
+        requires nests { Nests self.now.names.now self.now.depth (E.pre self.now.read_expr)
+            (E.post self.now.read_expr) (S.pre self.now.read_specifiers)
+            (S.post self.now.read_specifiers) (D.pre self.now.read_declarator)
+            (D.post self.now.read_declarator) }
+        requires measured { IsMeasured self.now.depth (parts_height (parts_seen before.tree))
+            before.height }
+        ensures reads { Reads (λ m. parts_seen m.tree) (spec.function_part
+            (names_of self.now.names.now) (rules (names_of self.now.names.now) self.now.depth)
+            (parts_seen before.tree) at cursor.old) result cursor.new }
+        ensures height { IfOk result (λ m. IsMeasured self.now.depth
+            (parts_height (parts_seen m.tree)) m.height) }
     {
         let Measured { tree, height } = self.parameters(cursor)?;
         let close = is_close_paren(cursor.peek());
@@ -114,10 +130,17 @@ impl<
         before: Measured<Items<Part>>,
         start: PartStart,
     ) -> Result<Measured<Items<Part>>, Stop>
-        requires nests { Nests self.now.names.now self.now.depth (E.pre self.now.read_expr) (E.post self.now.read_expr) (S.pre self.now.read_specifiers) (S.post self.now.read_specifiers) (D.pre self.now.read_declarator) (D.post self.now.read_declarator) }
-        requires measured { IsMeasured self.now.depth (parts_height (parts_seen before.tree)) before.height }
-        ensures reads { Reads (λ m. parts_seen m.tree) (spec.with_part (names_of self.now.names.now) (rules (names_of self.now.names.now) self.now.depth) (parts_seen before.tree) (part_start_view start) cursor.old) result cursor.new }
-        ensures height { IfOk result (λ m. IsMeasured self.now.depth (parts_height (parts_seen m.tree)) m.height) }
+        requires nests { Nests self.now.names.now self.now.depth (E.pre self.now.read_expr)
+            (E.post self.now.read_expr) (S.pre self.now.read_specifiers)
+            (S.post self.now.read_specifiers) (D.pre self.now.read_declarator)
+            (D.post self.now.read_declarator) }
+        requires measured { IsMeasured self.now.depth (parts_height (parts_seen before.tree))
+            before.height }
+        ensures reads { Reads (λ m. parts_seen m.tree) (spec.with_part (names_of self.now.names.now)
+            (rules (names_of self.now.names.now) self.now.depth) (parts_seen before.tree)
+            (part_start_view start) cursor.old) result cursor.new }
+        ensures height { IfOk result (λ m. IsMeasured self.now.depth
+            (parts_height (parts_seen m.tree)) m.height) }
     {
         match start {
             PartStart::Array(at) => {
@@ -138,10 +161,17 @@ impl<
         cursor: &mut Cursor<'_>,
         before: Measured<Items<Part>>,
     ) -> Result<Measured<Items<Part>>, Stop>
-        requires nests { Nests self.now.names.now self.now.depth (E.pre self.now.read_expr) (E.post self.now.read_expr) (S.pre self.now.read_specifiers) (S.post self.now.read_specifiers) (D.pre self.now.read_declarator) (D.post self.now.read_declarator) }
-        requires measured { IsMeasured self.now.depth (parts_height (parts_seen before.tree)) before.height }
-        ensures reads { Reads (λ m. parts_seen m.tree) (spec.part_step (names_of self.now.names.now) (rules (names_of self.now.names.now) self.now.depth) (parts_seen before.tree) cursor.old) result cursor.new }
-        ensures height { IfOk result (λ m. IsMeasured self.now.depth (parts_height (parts_seen m.tree)) m.height) }
+        requires nests { Nests self.now.names.now self.now.depth (E.pre self.now.read_expr)
+            (E.post self.now.read_expr) (S.pre self.now.read_specifiers)
+            (S.post self.now.read_specifiers) (D.pre self.now.read_declarator)
+            (D.post self.now.read_declarator) }
+        requires measured { IsMeasured self.now.depth (parts_height (parts_seen before.tree))
+            before.height }
+        ensures reads { Reads (λ m. parts_seen m.tree) (spec.part_step (names_of self.now.names.now)
+            (rules (names_of self.now.names.now) self.now.depth)
+            (parts_seen before.tree) cursor.old) result cursor.new }
+        ensures height { IfOk result (λ m. IsMeasured self.now.depth
+            (parts_height (parts_seen m.tree)) m.height) }
     {
         let start = next_part(cursor.peek());
         self.with_part(cursor, before, start)
@@ -153,10 +183,18 @@ impl<
         cursor: &mut Cursor<'_>,
         before: Measured<Items<Part>>,
     ) -> Result<Measured<Items<Part>>, Stop>
-        requires nests { Nests self.now.names.now self.now.depth (E.pre self.now.read_expr) (E.post self.now.read_expr) (S.pre self.now.read_specifiers) (S.post self.now.read_specifiers) (D.pre self.now.read_declarator) (D.post self.now.read_declarator) }
-        requires measured { IsMeasured self.now.depth (parts_height (parts_seen before.tree)) before.height }
-        ensures reads { Reads (λ m. parts_seen m.tree) (loop (λ _. tests.begins_part) (spec.part_step (names_of self.now.names.now) (rules (names_of self.now.names.now) self.now.depth)) (parts_seen before.tree) cursor.old) result cursor.new }
-        ensures height { IfOk result (λ m. IsMeasured self.now.depth (parts_height (parts_seen m.tree)) m.height) }
+        requires nests { Nests self.now.names.now self.now.depth (E.pre self.now.read_expr)
+            (E.post self.now.read_expr) (S.pre self.now.read_specifiers)
+            (S.post self.now.read_specifiers) (D.pre self.now.read_declarator)
+            (D.post self.now.read_declarator) }
+        requires measured { IsMeasured self.now.depth (parts_height (parts_seen before.tree))
+            before.height }
+        ensures reads { Reads (λ m. parts_seen m.tree) (loop (λ _. tests.begins_part)
+            (spec.part_step (names_of self.now.names.now)
+            (rules (names_of self.now.names.now) self.now.depth))
+            (parts_seen before.tree) cursor.old) result cursor.new }
+        ensures height { IfOk result (λ m. IsMeasured self.now.depth
+            (parts_height (parts_seen m.tree)) m.height) }
     {
         let mut list = before;
         for _turn in 0..cursor.left() {

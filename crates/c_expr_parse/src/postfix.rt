@@ -47,10 +47,18 @@ impl<
         e: Measured<Expr>,
         at: Place,
     ) -> Result<Measured<Expr>, Stop>
-        requires nests { Nests self.now.names.now self.now.depth (E.pre self.now.read_expr) (E.post self.now.read_expr) (S.pre self.now.read_specifiers) (S.post self.now.read_specifiers) (D.pre self.now.read_declarator) (D.post self.now.read_declarator) }
-        requires measured { IsMeasured (suc self.now.depth) (expr_height (expr_view e.tree)) e.height }
-        ensures reads { Reads (λ m. expr_view m.tree) (spec.with_suffix (names_of self.now.names.now) self.now.depth (rules (names_of self.now.names.now) self.now.depth) (expr_view e.tree) (tests.IndexAt at) cursor.old) result cursor.new }
-        ensures height { IfOk result (λ m. IsMeasured (suc self.now.depth) (expr_height (expr_view m.tree)) m.height) }
+        requires nests { Nests self.now.names.now self.now.depth (E.pre self.now.read_expr)
+            (E.post self.now.read_expr) (S.pre self.now.read_specifiers)
+            (S.post self.now.read_specifiers) (D.pre self.now.read_declarator)
+            (D.post self.now.read_declarator) }
+        requires measured { IsMeasured (suc self.now.depth)
+            (expr_height (expr_view e.tree)) e.height }
+        ensures reads { Reads (λ m. expr_view m.tree) (spec.with_suffix
+            (names_of self.now.names.now) self.now.depth
+            (rules (names_of self.now.names.now) self.now.depth) (expr_view e.tree)
+            (tests.IndexAt at) cursor.old) result cursor.new }
+        ensures height { IfOk result (λ m. IsMeasured (suc self.now.depth)
+            (expr_height (expr_view m.tree)) m.height) }
     {
         let e = boxed(self.alloc, e)?;
         cursor.take_above(self.depth, e.height)?;
@@ -70,10 +78,18 @@ impl<
         e: Measured<Expr>,
         at: Place,
     ) -> Result<Measured<Expr>, Stop>
-        requires nests { Nests self.now.names.now self.now.depth (E.pre self.now.read_expr) (E.post self.now.read_expr) (S.pre self.now.read_specifiers) (S.post self.now.read_specifiers) (D.pre self.now.read_declarator) (D.post self.now.read_declarator) }
-        requires measured { IsMeasured (suc self.now.depth) (expr_height (expr_view e.tree)) e.height }
-        ensures reads { Reads (λ m. expr_view m.tree) (spec.with_suffix (names_of self.now.names.now) self.now.depth (rules (names_of self.now.names.now) self.now.depth) (expr_view e.tree) (tests.CallAt at) cursor.old) result cursor.new }
-        ensures height { IfOk result (λ m. IsMeasured (suc self.now.depth) (expr_height (expr_view m.tree)) m.height) }
+        requires nests { Nests self.now.names.now self.now.depth (E.pre self.now.read_expr)
+            (E.post self.now.read_expr) (S.pre self.now.read_specifiers)
+            (S.post self.now.read_specifiers) (D.pre self.now.read_declarator)
+            (D.post self.now.read_declarator) }
+        requires measured { IsMeasured (suc self.now.depth)
+            (expr_height (expr_view e.tree)) e.height }
+        ensures reads { Reads (λ m. expr_view m.tree) (spec.with_suffix
+            (names_of self.now.names.now) self.now.depth
+            (rules (names_of self.now.names.now) self.now.depth) (expr_view e.tree)
+            (tests.CallAt at) cursor.old) result cursor.new }
+        ensures height { IfOk result (λ m. IsMeasured (suc self.now.depth)
+            (expr_height (expr_view m.tree)) m.height) }
     {
         let e = boxed(self.alloc, e)?;
         cursor.take_above(self.depth, e.height)?;
@@ -94,10 +110,18 @@ impl<
         op: MemberOperator,
         at: Place,
     ) -> Result<Measured<Expr>, Stop>
-        requires nests { Nests self.now.names.now self.now.depth (E.pre self.now.read_expr) (E.post self.now.read_expr) (S.pre self.now.read_specifiers) (S.post self.now.read_specifiers) (D.pre self.now.read_declarator) (D.post self.now.read_declarator) }
-        requires measured { IsMeasured (suc self.now.depth) (expr_height (expr_view e.tree)) e.height }
-        ensures reads { Reads (λ m. expr_view m.tree) (spec.with_suffix (names_of self.now.names.now) self.now.depth (rules (names_of self.now.names.now) self.now.depth) (expr_view e.tree) (tests.MemberAt op at) cursor.old) result cursor.new }
-        ensures height { IfOk result (λ m. IsMeasured (suc self.now.depth) (expr_height (expr_view m.tree)) m.height) }
+        requires nests { Nests self.now.names.now self.now.depth (E.pre self.now.read_expr)
+            (E.post self.now.read_expr) (S.pre self.now.read_specifiers)
+            (S.post self.now.read_specifiers) (D.pre self.now.read_declarator)
+            (D.post self.now.read_declarator) }
+        requires measured { IsMeasured (suc self.now.depth)
+            (expr_height (expr_view e.tree)) e.height }
+        ensures reads { Reads (λ m. expr_view m.tree) (spec.with_suffix
+            (names_of self.now.names.now) self.now.depth
+            (rules (names_of self.now.names.now) self.now.depth) (expr_view e.tree)
+            (tests.MemberAt op at) cursor.old) result cursor.new }
+        ensures height { IfOk result (λ m. IsMeasured (suc self.now.depth)
+            (expr_height (expr_view m.tree)) m.height) }
     {
         let e = boxed(self.alloc, e)?;
         cursor.take_above(self.depth, e.height)?;
@@ -116,10 +140,18 @@ impl<
         step: Step,
         at: Place,
     ) -> Result<Measured<Expr>, Stop>
-        requires nests { Nests self.now.names.now self.now.depth (E.pre self.now.read_expr) (E.post self.now.read_expr) (S.pre self.now.read_specifiers) (S.post self.now.read_specifiers) (D.pre self.now.read_declarator) (D.post self.now.read_declarator) }
-        requires measured { IsMeasured (suc self.now.depth) (expr_height (expr_view e.tree)) e.height }
-        ensures reads { Reads (λ m. expr_view m.tree) (spec.with_suffix (names_of self.now.names.now) self.now.depth (rules (names_of self.now.names.now) self.now.depth) (expr_view e.tree) (tests.StepAt step at) cursor.old) result cursor.new }
-        ensures height { IfOk result (λ m. IsMeasured (suc self.now.depth) (expr_height (expr_view m.tree)) m.height) }
+        requires nests { Nests self.now.names.now self.now.depth (E.pre self.now.read_expr)
+            (E.post self.now.read_expr) (S.pre self.now.read_specifiers)
+            (S.post self.now.read_specifiers) (D.pre self.now.read_declarator)
+            (D.post self.now.read_declarator) }
+        requires measured { IsMeasured (suc self.now.depth)
+            (expr_height (expr_view e.tree)) e.height }
+        ensures reads { Reads (λ m. expr_view m.tree) (spec.with_suffix
+            (names_of self.now.names.now) self.now.depth
+            (rules (names_of self.now.names.now) self.now.depth) (expr_view e.tree)
+            (tests.StepAt step at) cursor.old) result cursor.new }
+        ensures height { IfOk result (λ m. IsMeasured (suc self.now.depth)
+            (expr_height (expr_view m.tree)) m.height) }
     {
         let e = boxed(self.alloc, e)?;
         cursor.take_above(self.depth, e.height)?;
@@ -136,10 +168,18 @@ impl<
         e: Measured<Expr>,
         suffix: Suffix,
     ) -> Result<Measured<Expr>, Stop>
-        requires nests { Nests self.now.names.now self.now.depth (E.pre self.now.read_expr) (E.post self.now.read_expr) (S.pre self.now.read_specifiers) (S.post self.now.read_specifiers) (D.pre self.now.read_declarator) (D.post self.now.read_declarator) }
-        requires measured { IsMeasured (suc self.now.depth) (expr_height (expr_view e.tree)) e.height }
-        ensures reads { Reads (λ m. expr_view m.tree) (spec.with_suffix (names_of self.now.names.now) self.now.depth (rules (names_of self.now.names.now) self.now.depth) (expr_view e.tree) (suffix_view suffix) cursor.old) result cursor.new }
-        ensures height { IfOk result (λ m. IsMeasured (suc self.now.depth) (expr_height (expr_view m.tree)) m.height) }
+        requires nests { Nests self.now.names.now self.now.depth (E.pre self.now.read_expr)
+            (E.post self.now.read_expr) (S.pre self.now.read_specifiers)
+            (S.post self.now.read_specifiers) (D.pre self.now.read_declarator)
+            (D.post self.now.read_declarator) }
+        requires measured { IsMeasured (suc self.now.depth)
+            (expr_height (expr_view e.tree)) e.height }
+        ensures reads { Reads (λ m. expr_view m.tree) (spec.with_suffix
+            (names_of self.now.names.now) self.now.depth
+            (rules (names_of self.now.names.now) self.now.depth) (expr_view e.tree)
+            (suffix_view suffix) cursor.old) result cursor.new }
+        ensures height { IfOk result (λ m. IsMeasured (suc self.now.depth)
+            (expr_height (expr_view m.tree)) m.height) }
     {
         match suffix {
             Suffix::Index(at) => self.index(cursor, e, at),
@@ -156,10 +196,18 @@ impl<
         cursor: &mut Cursor<'_>,
         e: Measured<Expr>,
     ) -> Result<Measured<Expr>, Stop>
-        requires nests { Nests self.now.names.now self.now.depth (E.pre self.now.read_expr) (E.post self.now.read_expr) (S.pre self.now.read_specifiers) (S.post self.now.read_specifiers) (D.pre self.now.read_declarator) (D.post self.now.read_declarator) }
-        requires measured { IsMeasured (suc self.now.depth) (expr_height (expr_view e.tree)) e.height }
-        ensures reads { Reads (λ m. expr_view m.tree) (spec.postfix_step (names_of self.now.names.now) self.now.depth (rules (names_of self.now.names.now) self.now.depth) (expr_view e.tree) cursor.old) result cursor.new }
-        ensures height { IfOk result (λ m. IsMeasured (suc self.now.depth) (expr_height (expr_view m.tree)) m.height) }
+        requires nests { Nests self.now.names.now self.now.depth (E.pre self.now.read_expr)
+            (E.post self.now.read_expr) (S.pre self.now.read_specifiers)
+            (S.post self.now.read_specifiers) (D.pre self.now.read_declarator)
+            (D.post self.now.read_declarator) }
+        requires measured { IsMeasured (suc self.now.depth)
+            (expr_height (expr_view e.tree)) e.height }
+        ensures reads { Reads (λ m. expr_view m.tree) (spec.postfix_step
+            (names_of self.now.names.now) self.now.depth
+            (rules (names_of self.now.names.now) self.now.depth) (expr_view e.tree) cursor.old)
+            result cursor.new }
+        ensures height { IfOk result (λ m. IsMeasured (suc self.now.depth)
+            (expr_height (expr_view m.tree)) m.height) }
     {
         let suffix = next_suffix(cursor.peek());
         self.with_suffix(cursor, e, suffix)
@@ -172,10 +220,18 @@ impl<
         cursor: &mut Cursor<'_>,
         first: Measured<Expr>,
     ) -> Result<Measured<Expr>, Stop>
-        requires nests { Nests self.now.names.now self.now.depth (E.pre self.now.read_expr) (E.post self.now.read_expr) (S.pre self.now.read_specifiers) (S.post self.now.read_specifiers) (D.pre self.now.read_declarator) (D.post self.now.read_declarator) }
-        requires measured { IsMeasured (suc self.now.depth) (expr_height (expr_view first.tree)) first.height }
-        ensures reads { Reads (λ m. expr_view m.tree) (spec.postfix (names_of self.now.names.now) self.now.depth (rules (names_of self.now.names.now) self.now.depth) (expr_view first.tree) cursor.old) result cursor.new }
-        ensures height { IfOk result (λ m. IsMeasured (suc self.now.depth) (expr_height (expr_view m.tree)) m.height) }
+        requires nests { Nests self.now.names.now self.now.depth (E.pre self.now.read_expr)
+            (E.post self.now.read_expr) (S.pre self.now.read_specifiers)
+            (S.post self.now.read_specifiers) (D.pre self.now.read_declarator)
+            (D.post self.now.read_declarator) }
+        requires measured { IsMeasured (suc self.now.depth)
+            (expr_height (expr_view first.tree)) first.height }
+        ensures reads { Reads (λ m. expr_view m.tree) (spec.postfix
+            (names_of self.now.names.now) self.now.depth
+            (rules (names_of self.now.names.now) self.now.depth) (expr_view first.tree) cursor.old)
+            result cursor.new }
+        ensures height { IfOk result (λ m. IsMeasured (suc self.now.depth)
+            (expr_height (expr_view m.tree)) m.height) }
     {
         let mut e = first;
         for _turn in 0..cursor.left() {

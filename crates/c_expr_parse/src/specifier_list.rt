@@ -55,10 +55,17 @@ impl<
         tag: Option<Identifier>,
         brace: Place,
     ) -> Result<Measured<Items<Specifier>>, Stop>
-        requires nests { Nests self.now.names.now self.now.depth (E.pre self.now.read_expr) (E.post self.now.read_expr) (S.pre self.now.read_specifiers) (S.post self.now.read_specifiers) (D.pre self.now.read_declarator) (D.post self.now.read_declarator) }
-        requires measured { IsMeasured self.now.depth (specifiers_height (specifiers_seen before.tree)) before.height }
-        ensures reads { Reads (λ m. specifiers_seen m.tree) (spec.aggregate_body (names_of self.now.names.now) (rules (names_of self.now.names.now) self.now.depth) (specifiers_seen before.tree) kind at tag brace cursor.old) result cursor.new }
-        ensures height { IfOk result (λ m. IsMeasured self.now.depth (specifiers_height (specifiers_seen m.tree)) m.height) }
+        requires nests { Nests self.now.names.now self.now.depth (E.pre self.now.read_expr)
+            (E.post self.now.read_expr) (S.pre self.now.read_specifiers)
+            (S.post self.now.read_specifiers) (D.pre self.now.read_declarator)
+            (D.post self.now.read_declarator) }
+        requires measured { IsMeasured self.now.depth (specifiers_height
+            (specifiers_seen before.tree)) before.height }
+        ensures reads { Reads (λ m. specifiers_seen m.tree) (spec.aggregate_body
+            (names_of self.now.names.now) (rules (names_of self.now.names.now) self.now.depth)
+            (specifiers_seen before.tree) kind at tag brace cursor.old) result cursor.new }
+        ensures height { IfOk result (λ m. IsMeasured self.now.depth
+            (specifiers_height (specifiers_seen m.tree)) m.height) }
     {
         let rows = self.members(cursor)?;
         let close = is_close_brace(cursor.peek());
@@ -79,10 +86,18 @@ impl<
         at: Place,
         tag: Identifier,
     ) -> Result<Measured<Items<Specifier>>, Stop>
-        requires nests { Nests self.now.names.now self.now.depth (E.pre self.now.read_expr) (E.post self.now.read_expr) (S.pre self.now.read_specifiers) (S.post self.now.read_specifiers) (D.pre self.now.read_declarator) (D.post self.now.read_declarator) }
-        requires measured { IsMeasured self.now.depth (specifiers_height (specifiers_seen before.tree)) before.height }
-        ensures reads { Reads (λ m. specifiers_seen m.tree) (by_first tests.open_brace (spec.after_aggregate_tag (names_of self.now.names.now) (rules (names_of self.now.names.now) self.now.depth) (specifiers_seen before.tree) kind at tag) cursor.old) result cursor.new }
-        ensures height { IfOk result (λ m. IsMeasured self.now.depth (specifiers_height (specifiers_seen m.tree)) m.height) }
+        requires nests { Nests self.now.names.now self.now.depth (E.pre self.now.read_expr)
+            (E.post self.now.read_expr) (S.pre self.now.read_specifiers)
+            (S.post self.now.read_specifiers) (D.pre self.now.read_declarator)
+            (D.post self.now.read_declarator) }
+        requires measured { IsMeasured self.now.depth (specifiers_height
+            (specifiers_seen before.tree)) before.height }
+        ensures reads { Reads (λ m. specifiers_seen m.tree) (by_first tests.open_brace
+            (spec.after_aggregate_tag (names_of self.now.names.now)
+            (rules (names_of self.now.names.now) self.now.depth)
+            (specifiers_seen before.tree) kind at tag) cursor.old) result cursor.new }
+        ensures height { IfOk result (λ m. IsMeasured self.now.depth
+            (specifiers_height (specifiers_seen m.tree)) m.height) }
     {
         if let Some(brace) = open_brace(cursor.peek()) {
             cursor.skip()?;
@@ -100,10 +115,18 @@ impl<
         kind: AggregateKind,
         at: Place,
     ) -> Result<Measured<Items<Specifier>>, Stop>
-        requires nests { Nests self.now.names.now self.now.depth (E.pre self.now.read_expr) (E.post self.now.read_expr) (S.pre self.now.read_specifiers) (S.post self.now.read_specifiers) (D.pre self.now.read_declarator) (D.post self.now.read_declarator) }
-        requires measured { IsMeasured self.now.depth (specifiers_height (specifiers_seen before.tree)) before.height }
-        ensures reads { Reads (λ m. specifiers_seen m.tree) (by_first tests.open_brace (spec.aggregate_without_tag (names_of self.now.names.now) (rules (names_of self.now.names.now) self.now.depth) (specifiers_seen before.tree) kind at) cursor.old) result cursor.new }
-        ensures height { IfOk result (λ m. IsMeasured self.now.depth (specifiers_height (specifiers_seen m.tree)) m.height) }
+        requires nests { Nests self.now.names.now self.now.depth (E.pre self.now.read_expr)
+            (E.post self.now.read_expr) (S.pre self.now.read_specifiers)
+            (S.post self.now.read_specifiers) (D.pre self.now.read_declarator)
+            (D.post self.now.read_declarator) }
+        requires measured { IsMeasured self.now.depth (specifiers_height
+            (specifiers_seen before.tree)) before.height }
+        ensures reads { Reads (λ m. specifiers_seen m.tree) (by_first tests.open_brace
+            (spec.aggregate_without_tag (names_of self.now.names.now)
+            (rules (names_of self.now.names.now) self.now.depth)
+            (specifiers_seen before.tree) kind at) cursor.old) result cursor.new }
+        ensures height { IfOk result (λ m. IsMeasured self.now.depth
+            (specifiers_height (specifiers_seen m.tree)) m.height) }
     {
         let Some(brace) = open_brace(cursor.peek()) else {
             return Err(Stop::Syntax);
@@ -121,10 +144,18 @@ impl<
         kind: AggregateKind,
         at: Place,
     ) -> Result<Measured<Items<Specifier>>, Stop>
-        requires nests { Nests self.now.names.now self.now.depth (E.pre self.now.read_expr) (E.post self.now.read_expr) (S.pre self.now.read_specifiers) (S.post self.now.read_specifiers) (D.pre self.now.read_declarator) (D.post self.now.read_declarator) }
-        requires measured { IsMeasured self.now.depth (specifiers_height (specifiers_seen before.tree)) before.height }
-        ensures reads { Reads (λ m. specifiers_seen m.tree) (by_first tests.word_name (spec.after_aggregate (names_of self.now.names.now) (rules (names_of self.now.names.now) self.now.depth) (specifiers_seen before.tree) kind at) cursor.old) result cursor.new }
-        ensures height { IfOk result (λ m. IsMeasured self.now.depth (specifiers_height (specifiers_seen m.tree)) m.height) }
+        requires nests { Nests self.now.names.now self.now.depth (E.pre self.now.read_expr)
+            (E.post self.now.read_expr) (S.pre self.now.read_specifiers)
+            (S.post self.now.read_specifiers) (D.pre self.now.read_declarator)
+            (D.post self.now.read_declarator) }
+        requires measured { IsMeasured self.now.depth (specifiers_height
+            (specifiers_seen before.tree)) before.height }
+        ensures reads { Reads (λ m. specifiers_seen m.tree) (by_first tests.word_name
+            (spec.after_aggregate (names_of self.now.names.now)
+            (rules (names_of self.now.names.now) self.now.depth)
+            (specifiers_seen before.tree) kind at) cursor.old) result cursor.new }
+        ensures height { IfOk result (λ m. IsMeasured self.now.depth
+            (specifiers_height (specifiers_seen m.tree)) m.height) }
     {
         let Next::Name(bytes, place) = cursor.peek() else {
             return self.aggregate_without_tag(cursor, before, kind, at);
@@ -147,10 +178,17 @@ impl<
         tag: Option<Identifier>,
         brace: Place,
     ) -> Result<Measured<Items<Specifier>>, Stop>
-        requires nests { Nests self.now.names.now self.now.depth (E.pre self.now.read_expr) (E.post self.now.read_expr) (S.pre self.now.read_specifiers) (S.post self.now.read_specifiers) (D.pre self.now.read_declarator) (D.post self.now.read_declarator) }
-        requires measured { IsMeasured self.now.depth (specifiers_height (specifiers_seen before.tree)) before.height }
-        ensures reads { Reads (λ m. specifiers_seen m.tree) (spec.enumeration_body (names_of self.now.names.now) (rules (names_of self.now.names.now) self.now.depth) (specifiers_seen before.tree) at tag brace cursor.old) result cursor.new }
-        ensures height { IfOk result (λ m. IsMeasured self.now.depth (specifiers_height (specifiers_seen m.tree)) m.height) }
+        requires nests { Nests self.now.names.now self.now.depth (E.pre self.now.read_expr)
+            (E.post self.now.read_expr) (S.pre self.now.read_specifiers)
+            (S.post self.now.read_specifiers) (D.pre self.now.read_declarator)
+            (D.post self.now.read_declarator) }
+        requires measured { IsMeasured self.now.depth (specifiers_height
+            (specifiers_seen before.tree)) before.height }
+        ensures reads { Reads (λ m. specifiers_seen m.tree) (spec.enumeration_body
+            (names_of self.now.names.now) (rules (names_of self.now.names.now) self.now.depth)
+            (specifiers_seen before.tree) at tag brace cursor.old) result cursor.new }
+        ensures height { IfOk result (λ m. IsMeasured self.now.depth
+            (specifiers_height (specifiers_seen m.tree)) m.height) }
     {
         let Series { list, comma } = self.enumerators(cursor)?;
         let close = is_close_brace(cursor.peek());
@@ -171,10 +209,18 @@ impl<
         at: Place,
         tag: Identifier,
     ) -> Result<Measured<Items<Specifier>>, Stop>
-        requires nests { Nests self.now.names.now self.now.depth (E.pre self.now.read_expr) (E.post self.now.read_expr) (S.pre self.now.read_specifiers) (S.post self.now.read_specifiers) (D.pre self.now.read_declarator) (D.post self.now.read_declarator) }
-        requires measured { IsMeasured self.now.depth (specifiers_height (specifiers_seen before.tree)) before.height }
-        ensures reads { Reads (λ m. specifiers_seen m.tree) (by_first tests.open_brace (spec.after_enum_tag (names_of self.now.names.now) (rules (names_of self.now.names.now) self.now.depth) (specifiers_seen before.tree) at tag) cursor.old) result cursor.new }
-        ensures height { IfOk result (λ m. IsMeasured self.now.depth (specifiers_height (specifiers_seen m.tree)) m.height) }
+        requires nests { Nests self.now.names.now self.now.depth (E.pre self.now.read_expr)
+            (E.post self.now.read_expr) (S.pre self.now.read_specifiers)
+            (S.post self.now.read_specifiers) (D.pre self.now.read_declarator)
+            (D.post self.now.read_declarator) }
+        requires measured { IsMeasured self.now.depth (specifiers_height
+            (specifiers_seen before.tree)) before.height }
+        ensures reads { Reads (λ m. specifiers_seen m.tree) (by_first tests.open_brace
+            (spec.after_enum_tag (names_of self.now.names.now)
+            (rules (names_of self.now.names.now) self.now.depth)
+            (specifiers_seen before.tree) at tag) cursor.old) result cursor.new }
+        ensures height { IfOk result (λ m. IsMeasured self.now.depth
+            (specifiers_height (specifiers_seen m.tree)) m.height) }
     {
         if let Some(brace) = open_brace(cursor.peek()) {
             cursor.skip()?;
@@ -191,10 +237,18 @@ impl<
         before: Measured<Items<Specifier>>,
         at: Place,
     ) -> Result<Measured<Items<Specifier>>, Stop>
-        requires nests { Nests self.now.names.now self.now.depth (E.pre self.now.read_expr) (E.post self.now.read_expr) (S.pre self.now.read_specifiers) (S.post self.now.read_specifiers) (D.pre self.now.read_declarator) (D.post self.now.read_declarator) }
-        requires measured { IsMeasured self.now.depth (specifiers_height (specifiers_seen before.tree)) before.height }
-        ensures reads { Reads (λ m. specifiers_seen m.tree) (by_first tests.open_brace (spec.enum_without_tag (names_of self.now.names.now) (rules (names_of self.now.names.now) self.now.depth) (specifiers_seen before.tree) at) cursor.old) result cursor.new }
-        ensures height { IfOk result (λ m. IsMeasured self.now.depth (specifiers_height (specifiers_seen m.tree)) m.height) }
+        requires nests { Nests self.now.names.now self.now.depth (E.pre self.now.read_expr)
+            (E.post self.now.read_expr) (S.pre self.now.read_specifiers)
+            (S.post self.now.read_specifiers) (D.pre self.now.read_declarator)
+            (D.post self.now.read_declarator) }
+        requires measured { IsMeasured self.now.depth (specifiers_height
+            (specifiers_seen before.tree)) before.height }
+        ensures reads { Reads (λ m. specifiers_seen m.tree) (by_first tests.open_brace
+            (spec.enum_without_tag (names_of self.now.names.now)
+            (rules (names_of self.now.names.now) self.now.depth) (specifiers_seen before.tree) at)
+            cursor.old) result cursor.new }
+        ensures height { IfOk result (λ m. IsMeasured self.now.depth
+            (specifiers_height (specifiers_seen m.tree)) m.height) }
     {
         let Some(brace) = open_brace(cursor.peek()) else {
             return Err(Stop::Syntax);
@@ -211,10 +265,18 @@ impl<
         before: Measured<Items<Specifier>>,
         at: Place,
     ) -> Result<Measured<Items<Specifier>>, Stop>
-        requires nests { Nests self.now.names.now self.now.depth (E.pre self.now.read_expr) (E.post self.now.read_expr) (S.pre self.now.read_specifiers) (S.post self.now.read_specifiers) (D.pre self.now.read_declarator) (D.post self.now.read_declarator) }
-        requires measured { IsMeasured self.now.depth (specifiers_height (specifiers_seen before.tree)) before.height }
-        ensures reads { Reads (λ m. specifiers_seen m.tree) (by_first tests.word_name (spec.after_enum (names_of self.now.names.now) (rules (names_of self.now.names.now) self.now.depth) (specifiers_seen before.tree) at) cursor.old) result cursor.new }
-        ensures height { IfOk result (λ m. IsMeasured self.now.depth (specifiers_height (specifiers_seen m.tree)) m.height) }
+        requires nests { Nests self.now.names.now self.now.depth (E.pre self.now.read_expr)
+            (E.post self.now.read_expr) (S.pre self.now.read_specifiers)
+            (S.post self.now.read_specifiers) (D.pre self.now.read_declarator)
+            (D.post self.now.read_declarator) }
+        requires measured { IsMeasured self.now.depth (specifiers_height
+            (specifiers_seen before.tree)) before.height }
+        ensures reads { Reads (λ m. specifiers_seen m.tree) (by_first tests.word_name
+            (spec.after_enum (names_of self.now.names.now)
+            (rules (names_of self.now.names.now) self.now.depth) (specifiers_seen before.tree) at)
+            cursor.old) result cursor.new }
+        ensures height { IfOk result (λ m. IsMeasured self.now.depth
+            (specifiers_height (specifiers_seen m.tree)) m.height) }
     {
         let Next::Name(bytes, place) = cursor.peek() else {
             return self.enum_without_tag(cursor, before, at);
@@ -234,10 +296,18 @@ impl<
         mut before: Measured<Items<Specifier>>,
         start: SpecifierStart<'_>,
     ) -> Result<Measured<Items<Specifier>>, Stop>
-        requires nests { Nests self.now.names.now self.now.depth (E.pre self.now.read_expr) (E.post self.now.read_expr) (S.pre self.now.read_specifiers) (S.post self.now.read_specifiers) (D.pre self.now.read_declarator) (D.post self.now.read_declarator) }
-        requires measured { IsMeasured self.now.depth (specifiers_height (specifiers_seen before.tree)) before.height }
-        ensures reads { Reads (λ m. specifiers_seen m.tree) (spec.with_specifier (names_of self.now.names.now) (rules (names_of self.now.names.now) self.now.depth) (specifiers_seen before.tree) (specifier_start_view start.entry) cursor.old) result cursor.new }
-        ensures height { IfOk result (λ m. IsMeasured self.now.depth (specifiers_height (specifiers_seen m.tree)) m.height) }
+        requires nests { Nests self.now.names.now self.now.depth (E.pre self.now.read_expr)
+            (E.post self.now.read_expr) (S.pre self.now.read_specifiers)
+            (S.post self.now.read_specifiers) (D.pre self.now.read_declarator)
+            (D.post self.now.read_declarator) }
+        requires measured { IsMeasured self.now.depth (specifiers_height
+            (specifiers_seen before.tree)) before.height }
+        ensures reads { Reads (λ m. specifiers_seen m.tree) (spec.with_specifier
+            (names_of self.now.names.now) (rules (names_of self.now.names.now) self.now.depth)
+            (specifiers_seen before.tree) (specifier_start_view start.entry) cursor.old) result
+            cursor.new }
+        ensures height { IfOk result (λ m. IsMeasured self.now.depth
+            (specifiers_height (specifiers_seen m.tree)) m.height) }
     {
         match start {
             SpecifierStart::Word(word) => {
@@ -274,10 +344,17 @@ impl<
         scope: Scope,
         before: Measured<Items<Specifier>>,
     ) -> Result<Measured<Items<Specifier>>, Stop>
-        requires nests { Nests self.now.names.now self.now.depth (E.pre self.now.read_expr) (E.post self.now.read_expr) (S.pre self.now.read_specifiers) (S.post self.now.read_specifiers) (D.pre self.now.read_declarator) (D.post self.now.read_declarator) }
-        requires measured { IsMeasured self.now.depth (specifiers_height (specifiers_seen before.tree)) before.height }
-        ensures reads { Reads (λ m. specifiers_seen m.tree) (spec.specifier_step (names_of self.now.names.now) (rules (names_of self.now.names.now) self.now.depth) (scope_view scope) (specifiers_seen before.tree) cursor.old) result cursor.new }
-        ensures height { IfOk result (λ m. IsMeasured self.now.depth (specifiers_height (specifiers_seen m.tree)) m.height) }
+        requires nests { Nests self.now.names.now self.now.depth (E.pre self.now.read_expr)
+            (E.post self.now.read_expr) (S.pre self.now.read_specifiers)
+            (S.post self.now.read_specifiers) (D.pre self.now.read_declarator)
+            (D.post self.now.read_declarator) }
+        requires measured { IsMeasured self.now.depth (specifiers_height
+            (specifiers_seen before.tree)) before.height }
+        ensures reads { Reads (λ m. specifiers_seen m.tree) (spec.specifier_step
+            (names_of self.now.names.now) (rules (names_of self.now.names.now) self.now.depth)
+            (scope_view scope) (specifiers_seen before.tree) cursor.old) result cursor.new }
+        ensures height { IfOk result (λ m. IsMeasured self.now.depth
+            (specifiers_height (specifiers_seen m.tree)) m.height) }
     {
         if is_further_long(before.tree.as_slice(), cursor.peek()) {
             return Err(Stop::Unsupported);
@@ -292,10 +369,19 @@ impl<
         scope: Scope,
         first: Measured<Items<Specifier>>,
     ) -> Result<Measured<Items<Specifier>>, Stop>
-        requires nests { Nests self.now.names.now self.now.depth (E.pre self.now.read_expr) (E.post self.now.read_expr) (S.pre self.now.read_specifiers) (S.post self.now.read_specifiers) (D.pre self.now.read_declarator) (D.post self.now.read_declarator) }
-        requires measured { IsMeasured self.now.depth (specifiers_height (specifiers_seen first.tree)) first.height }
-        ensures reads { Reads (λ m. specifiers_seen m.tree) (loop (λ _. tests.begins_specifier (names_of self.now.names.now) (scope_view scope)) (spec.specifier_step (names_of self.now.names.now) (rules (names_of self.now.names.now) self.now.depth) (scope_view scope)) (specifiers_seen first.tree) cursor.old) result cursor.new }
-        ensures height { IfOk result (λ m. IsMeasured self.now.depth (specifiers_height (specifiers_seen m.tree)) m.height) }
+        requires nests { Nests self.now.names.now self.now.depth (E.pre self.now.read_expr)
+            (E.post self.now.read_expr) (S.pre self.now.read_specifiers)
+            (S.post self.now.read_specifiers) (D.pre self.now.read_declarator)
+            (D.post self.now.read_declarator) }
+        requires measured { IsMeasured self.now.depth (specifiers_height
+            (specifiers_seen first.tree)) first.height }
+        ensures reads { Reads (λ m. specifiers_seen m.tree) (loop
+            (λ _. tests.begins_specifier (names_of self.now.names.now) (scope_view scope))
+            (spec.specifier_step (names_of self.now.names.now)
+            (rules (names_of self.now.names.now) self.now.depth) (scope_view scope))
+            (specifiers_seen first.tree) cursor.old) result cursor.new }
+        ensures height { IfOk result (λ m. IsMeasured self.now.depth
+            (specifiers_height (specifiers_seen m.tree)) m.height) }
     {
         let mut list = first;
         for _turn in 0..cursor.left() {
@@ -314,9 +400,15 @@ impl<
         cursor: &mut Cursor<'_>,
         scope: Scope,
     ) -> Result<Measured<Specifiers>, Stop>
-        requires nests { Nests self.now.names.now self.now.depth (E.pre self.now.read_expr) (E.post self.now.read_expr) (S.pre self.now.read_specifiers) (S.post self.now.read_specifiers) (D.pre self.now.read_declarator) (D.post self.now.read_declarator) }
-        ensures reads { Reads (λ m. specifiers_view m.tree) (spec.specifiers_layer (names_of self.now.names.now) (rules (names_of self.now.names.now) self.now.depth) (scope_view scope) cursor.old) result cursor.new }
-        ensures height { IfOk result (λ m. IsMeasured (suc self.now.depth) (suc (specifiers_height (specifiers_view m.tree))) m.height) }
+        requires nests { Nests self.now.names.now self.now.depth (E.pre self.now.read_expr)
+            (E.post self.now.read_expr) (S.pre self.now.read_specifiers)
+            (S.post self.now.read_specifiers) (D.pre self.now.read_declarator)
+            (D.post self.now.read_declarator) }
+        ensures reads { Reads (λ m. specifiers_view m.tree) (spec.specifiers_layer
+            (names_of self.now.names.now) (rules (names_of self.now.names.now) self.now.depth)
+            (scope_view scope) cursor.old) result cursor.new }
+        ensures height { IfOk result (λ m. IsMeasured (suc self.now.depth)
+            (suc (specifiers_height (specifiers_view m.tree))) m.height) }
     {
         let none = Measured {
             tree: Items::new(self.alloc),

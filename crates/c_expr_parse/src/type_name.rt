@@ -42,9 +42,16 @@ impl<
         cursor: &mut Cursor<'_>,
         naming: Naming,
     ) -> Result<Measured<Option<Declarator>>, Stop>
-        requires nests { Nests self.now.names.now self.now.depth (E.pre self.now.read_expr) (E.post self.now.read_expr) (S.pre self.now.read_specifiers) (S.post self.now.read_specifiers) (D.pre self.now.read_declarator) (D.post self.now.read_declarator) }
-        ensures reads { Reads (λ m. declared_of (option_map declarator_view m.tree)) (spec.declared (names_of self.now.names.now) (rules (names_of self.now.names.now) self.now.depth) (naming_view naming) cursor.old) result cursor.new }
-        ensures height { IfOk result (λ m. IsMeasured self.now.depth (declared_height (declared_of (option_map declarator_view m.tree))) m.height) }
+        requires nests { Nests self.now.names.now self.now.depth (E.pre self.now.read_expr)
+            (E.post self.now.read_expr) (S.pre self.now.read_specifiers)
+            (S.post self.now.read_specifiers) (D.pre self.now.read_declarator)
+            (D.post self.now.read_declarator) }
+        ensures reads { Reads (λ m. declared_of (option_map declarator_view m.tree))
+            (spec.declared (names_of self.now.names.now)
+            (rules (names_of self.now.names.now) self.now.depth) (naming_view naming) cursor.old)
+            result cursor.new }
+        ensures height { IfOk result (λ m. IsMeasured self.now.depth
+            (declared_height (declared_of (option_map declarator_view m.tree))) m.height) }
     {
         if !begins_declarator(self.names, naming, cursor.peek()) {
             return Ok(Measured {
@@ -61,9 +68,15 @@ impl<
 
     #[tactic(auto, using(c_tree::proofs::ViewLaws::expr_views), unfolding(crate::specs::ExprRules::type_name))]
     pub fn type_name(&self, cursor: &mut Cursor<'_>) -> Result<Measured<TypeName>, Stop>
-        requires nests { Nests self.now.names.now self.now.depth (E.pre self.now.read_expr) (E.post self.now.read_expr) (S.pre self.now.read_specifiers) (S.post self.now.read_specifiers) (D.pre self.now.read_declarator) (D.post self.now.read_declarator) }
-        ensures reads { Reads (λ m. type_name_view m.tree) (spec.type_name (names_of self.now.names.now) (rules (names_of self.now.names.now) self.now.depth) cursor.old) result cursor.new }
-        ensures height { IfOk result (λ m. IsMeasured self.now.depth (type_name_height (type_name_view m.tree)) m.height) }
+        requires nests { Nests self.now.names.now self.now.depth (E.pre self.now.read_expr)
+            (E.post self.now.read_expr) (S.pre self.now.read_specifiers)
+            (S.post self.now.read_specifiers) (D.pre self.now.read_declarator)
+            (D.post self.now.read_declarator) }
+        ensures reads { Reads (λ m. type_name_view m.tree) (spec.type_name
+            (names_of self.now.names.now) (rules (names_of self.now.names.now) self.now.depth)
+            cursor.old) result cursor.new }
+        ensures height { IfOk result (λ m. IsMeasured self.now.depth
+            (type_name_height (type_name_view m.tree)) m.height) }
     {
         let Measured {
             tree: specifiers,

@@ -33,7 +33,8 @@ pub fn typed(alloc: Global, text: &[u8]) -> Result<Typed, Fault>
     ensures refused { IfErr result (λ fault. fault ≢ IsNoMemory → IsFirstRefusal text.now fault) }
 
     // A text that is accepted with a tree over some table of types is answered with that very tree.
-    ensures accepts { (T : Table) (whole : TypedTranslationUnit) → IsTypedText text.now T whole → IsAccepted whole result }
+    ensures accepts { (T : Table) (whole : TypedTranslationUnit) → IsTypedText text.now T whole
+        → IsAccepted whole result }
 
     // The tree is the only one of the text that is well typed over its table.
     ensures only { IfOk result (λ t. (other : TypedTranslationUnit) → IsWellTyped t.types other
@@ -41,7 +42,8 @@ pub fn typed(alloc: Global, text: &[u8]) -> Result<Typed, Fault>
 
     // It is ready for lowering, its nodes are counted, and those that are printed stand in the order of the text.
     ensures ready { IfOk result (λ t. IsReadyUnit t.types (typed_unit_view t.unit)) }
-    ensures nodes { IfOk result (λ t. t.nodes ≡ length (nodes_made (made_by_unit (typed_unit_view t.unit)))) }
+    ensures nodes { IfOk result (λ t. t.nodes ≡ length
+        (nodes_made (made_by_unit (typed_unit_view t.unit)))) }
     ensures printed { IfOk result (λ t. HasPrinted (typed_unit_view t.unit) t.printed) }
     ensures ordered { IfOk result (λ t. AreInOrder t.printed) }
 {

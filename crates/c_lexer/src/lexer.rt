@@ -20,7 +20,8 @@ fn keep<'a>(
     start: usize,
     place: Place,
 ) -> Result<(), AllocError>
-    ensures { OnOk result (found.new.items ≡ found.old.items ++ token_list kind bytes.now start place) }
+    ensures { OnOk result (found.new.items ≡ found.old.items ++ token_list kind bytes.now start
+        place) }
 {
     if let Some(kind) = kind {
         found.push(Token::new(kind, bytes, start, place))?;

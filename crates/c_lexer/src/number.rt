@@ -296,7 +296,8 @@ fn after_sign(text: &[u8]) -> &[u8]
 
 /// Whether the text, after the letter of an exponent, is the rest of a floating constant.
 fn is_exponent_end(text: &[u8]) -> bool
-    ensures { result ≡ (begins_with is_ascii_digit (after_sign text.now) && is_floating_suffix (after_run is_ascii_digit (after_sign text.now))) }
+    ensures { result ≡ (begins_with is_ascii_digit (after_sign text.now) && is_floating_suffix
+        (after_run is_ascii_digit (after_sign text.now))) }
 {
     let digits = after_sign(text);
     let (_, suffix) = digits.split_at(digit_run(digits));

@@ -44,7 +44,8 @@ fn token(size: usize, kind: Result<TokenKind, Rule>) -> Result<Step, Rule>
 }
 
 fn word_step(text: &[u8]) -> Result<Step, Rule>
-    ensures { result ≡ token_of (prefix_len is_word_byte text.now) (word_kind (take (prefix_len is_word_byte text.now) text.now)) }
+    ensures { result ≡ token_of (prefix_len is_word_byte text.now)
+        (word_kind (take (prefix_len is_word_byte text.now) text.now)) }
 {
     let size = word_size(text);
     let (word, _) = text.split_at(size);
@@ -52,7 +53,8 @@ fn word_step(text: &[u8]) -> Result<Step, Rule>
 }
 
 fn number_step(text: &[u8]) -> Result<Step, Rule>
-    ensures { result ≡ token_of (number_size text.now) (number_kind (take (number_size text.now) text.now)) }
+    ensures { result ≡ token_of (number_size text.now)
+        (number_kind (take (number_size text.now) text.now)) }
 {
     let size = number_size(text);
     let (number, _) = text.split_at(size);

@@ -69,7 +69,8 @@ fn is_array_word(words: &ArrayWords, next: Next<'_>) -> bool
 #[tactic(auto, using(crate::proofs::ArrayWordLaws::one_more), unfolding(crate::specs::WordRules::next_array_word, crate::specs::WordRules::take))]
 fn next_array_word(cursor: &mut Cursor<'_>, mut before: ArrayWords) -> Result<ArrayWords, Stop>
     requires { AreArrayWords before.list before.has_static }
-    ensures reads { Reads (λ words. words.list) (spec.next_array_word before.list cursor.old) result cursor.new }
+    ensures reads { Reads (λ words. words.list) (spec.next_array_word before.list cursor.old) result
+        cursor.new }
     ensures fit { IfOk result (λ words. AreArrayWords words.list words.has_static) }
 {
     let Some(word) = array_word(&before, cursor.peek()) else {
@@ -83,7 +84,8 @@ fn next_array_word(cursor: &mut Cursor<'_>, mut before: ArrayWords) -> Result<Ar
 
 /// The words that come, none or more.
 pub fn array_words(alloc: Global, cursor: &mut Cursor<'_>) -> Result<ArrayWords, Stop>
-    ensures reads { Reads (λ words. words.list) (loop (λ words next. is_some (tests.array_word words next)) spec.next_array_word [] cursor.old) result cursor.new }
+    ensures reads { Reads (λ words. words.list) (loop (λ words next. is_some
+        (tests.array_word words next)) spec.next_array_word [] cursor.old) result cursor.new }
     ensures fit { IfOk result (λ words. AreArrayWords words.list words.has_static) }
 {
     let mut words = ArrayWords {

@@ -90,7 +90,8 @@ pub enum SpecifierStart<'a> {
 }
 
 fn specifier_start_of_word(scope: Scope, word: Keyword, at: Place) -> SpecifierStart<'static>
-    ensures { specifier_start_view result ≡ spec.specifier_start_of_word (scope_view scope) word at }
+    ensures { specifier_start_view result ≡ spec.specifier_start_of_word
+        (scope_view scope) word at }
 {
     match word {
         Keyword::Struct => SpecifierStart::Aggregate(AggregateKind::Struct, at),
@@ -115,7 +116,8 @@ pub fn next_specifier<'a>(
     scope: Scope,
     next: Next<'a>,
 ) -> SpecifierStart<'a>
-    ensures { specifier_start_view result ≡ spec.specifier_start (names_of names.now) (scope_view scope) (next_view next.entry) }
+    ensures { specifier_start_view result ≡ spec.specifier_start (names_of names.now)
+        (scope_view scope) (next_view next.entry) }
 {
     match next {
         Next::Name(bytes, at) => {
@@ -132,7 +134,8 @@ pub fn next_specifier<'a>(
 
 /// Whether a specifier begins that may stand there.
 pub fn begins_specifier(names: &IndexSet<Vec<u8>>, scope: Scope, next: Next<'_>) -> bool
-    ensures { result ≡ spec.begins_specifier (names_of names.now) (scope_view scope) (next_view next.entry) }
+    ensures { result ≡ spec.begins_specifier (names_of names.now) (scope_view scope)
+        (next_view next.entry) }
 {
     !matches!(next_specifier(names, scope, next), SpecifierStart::None)
 }
@@ -168,7 +171,8 @@ pub enum CoreStart<'a> {
 
 /// What stands in the middle of the declarator.
 pub fn next_core<'a>(names: &IndexSet<Vec<u8>>, naming: Naming, next: Next<'a>) -> CoreStart<'a>
-    ensures { core_start_view result ≡ spec.core_start (names_of names.now) (naming_view naming) (next_view next.entry) }
+    ensures { core_start_view result ≡ spec.core_start (names_of names.now) (naming_view naming)
+        (next_view next.entry) }
 {
     match next {
         Next::Name(bytes, at) => {
@@ -186,7 +190,8 @@ pub fn next_core<'a>(names: &IndexSet<Vec<u8>>, naming: Naming, next: Next<'a>) 
 /// Whether a declarator begins: a star, a name that may stand there, a parenthesis, or a bracket
 /// where the name may be left out.
 pub fn begins_declarator(names: &IndexSet<Vec<u8>>, naming: Naming, next: Next<'_>) -> bool
-    ensures { result ≡ spec.begins_declarator (names_of names.now) (naming_view naming) (next_view next.entry) }
+    ensures { result ≡ spec.begins_declarator (names_of names.now) (naming_view naming)
+        (next_view next.entry) }
 {
     star_sign(next).is_some()
         || !matches!(next_core(names, naming, next), CoreStart::None)

@@ -67,7 +67,8 @@ impl<'a> Cursor<'a> {
 
     /// Goes past a token that was found to be the one wanted, and else refuses it.
     pub fn expect(&mut self, found: bool) -> Result<(), Stop>
-        ensures { Reads (λ _. head self.old) (rule.branch (λ _. found) rule.skip rule.refuse self.old) result self.new }
+        ensures { Reads (λ _. head self.old) (rule.branch
+            (λ _. found) rule.skip rule.refuse self.old) result self.new }
     {
         if found {
             self.skip()
@@ -78,7 +79,8 @@ impl<'a> Cursor<'a> {
 
     /// Goes past a token above a part of this height, where so many nodes may lie below it.
     pub fn take_above(&mut self, depth: u16, height: usize) -> Result<(), Stop>
-        ensures reads { Reads (λ _. head self.old) (rule.take_above depth height self.old) result self.new }
+        ensures reads { Reads (λ _. head self.old) (rule.take_above depth height self.old) result
+            self.new }
         ensures low { IfOk result (λ _. height ≤ depth) }
     {
         if usize::from(depth) < height {

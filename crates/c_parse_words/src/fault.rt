@@ -21,7 +21,8 @@ fn place_of_first(text: &[u8], left: &[Token<'_>]) -> Place
 /// The fault for a stop where the cursor stands in the tokens of a text.
 pub fn fault_of(text: &[u8], tokens: &[Token<'_>], cursor: &Cursor<'_>, stop: Stop) -> Fault
     requires { length text.now ≤ 1048576 }
-    ensures { result ≡ spec.fault_of stop (spec.place_of_first text.now (drop (length tokens.now - length cursor.now) tokens.now)) }
+    ensures { result ≡ spec.fault_of stop (spec.place_of_first text.now
+        (drop (length tokens.now - length cursor.now) tokens.now)) }
 {
     let gone = tokens.len().saturating_sub(cursor.left());
     let place = place_of_first(text, &tokens[gone..]);

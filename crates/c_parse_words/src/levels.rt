@@ -49,7 +49,8 @@ pub fn question_after(least: u8, next: Next<'_>) -> Option<Place>
 
 /// The assignment operator that goes on from an expression, where an assignment may stand.
 pub fn assignment_after(least: u8, left: &Expr, next: Next<'_>) -> Option<Placed<Assignment>>
-    ensures { placed_view result ≡ spec.assignment_after least (expr_view left.now) (next_view next.entry) }
+    ensures { placed_view result ≡ spec.assignment_after least (expr_view left.now)
+        (next_view next.entry) }
 {
     if least <= 1 && is_unary(left) {
         assignment_operator(next)

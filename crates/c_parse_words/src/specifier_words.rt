@@ -40,7 +40,8 @@ fn has_long(list: &[Specifier]) -> bool
 
 /// Whether some specifier says a type.
 pub fn has_type(list: &[Specifier]) -> bool
-    ensures { result ≡ list_any (λ specifier. words.names_type (specifier_view specifier)) list.now }
+    ensures { result ≡ list_any (λ specifier. words.names_type (specifier_view specifier))
+        list.now }
 {
     list.iter().any(|specifier| names_type(specifier))
 }
@@ -48,7 +49,8 @@ pub fn has_type(list: &[Specifier]) -> bool
 /// Whether `long` comes and stands in the list already.
 #[tactic(auto, using(crate::proofs::SpecifierFlags::any_long, crate::proofs::SpecifierFlags::no_long, crate::proofs::SpecifierFlags::long_too))]
 pub fn is_further_long(list: &[Specifier], next: Next<'_>) -> bool
-    ensures { result ≡ (words.has_long (specifiers_seen list.now) && tests.is_long_next (next_view next.entry)) }
+    ensures { result ≡ (words.has_long (specifiers_seen list.now) && tests.is_long_next
+        (next_view next.entry)) }
 {
     if !is_long_next(next) {
         return false;

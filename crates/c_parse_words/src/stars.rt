@@ -55,7 +55,8 @@ fn next_qualifier(cursor: &mut Cursor<'_>, mut before: Items<Word>) -> Result<It
 
 /// The qualifiers that come.
 fn qualifiers(alloc: Global, cursor: &mut Cursor<'_>) -> Result<Items<Word>, Stop>
-    ensures { Reads (λ words. words) (loop (λ _ next. is_some (tests.qualifier_word next)) spec.next_qualifier [] cursor.old) result cursor.new }
+    ensures { Reads (λ words. words) (loop (λ _ next. is_some (tests.qualifier_word next))
+        spec.next_qualifier [] cursor.old) result cursor.new }
 {
     let mut words = Items::new(alloc);
     for _turn in 0..cursor.left() {
@@ -86,7 +87,8 @@ fn next_star(
 
 /// The stars that come, none or more.
 pub fn stars(alloc: Global, cursor: &mut Cursor<'_>) -> Result<Items<Star>, Stop>
-    ensures { Reads (λ stars. stars) (loop (λ _ next. is_some (tests.star_sign next)) spec.star_step [] cursor.old) result cursor.new }
+    ensures { Reads (λ stars. stars) (loop (λ _ next. is_some (tests.star_sign next)) spec.star_step
+        [] cursor.old) result cursor.new }
 {
     let mut list = Items::new(alloc);
     for _turn in 0..cursor.left() {

@@ -43,7 +43,8 @@ pub fn more_pieces(
     cursor: &mut Cursor<'_>,
     first: Items<StringPiece>,
 ) -> Result<Items<StringPiece>, Stop>
-    ensures { Reads (λ list. list) (loop (λ _ next. is_some (tests.string_piece next)) spec.next_piece first cursor.old) result cursor.new }
+    ensures { Reads (λ list. list) (loop (λ _ next. is_some (tests.string_piece next))
+        spec.next_piece first cursor.old) result cursor.new }
 {
     let mut pieces = first;
     for _turn in 0..cursor.left() {

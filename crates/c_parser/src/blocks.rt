@@ -26,7 +26,8 @@ use std::alloc::Global;
 /// Whether the item is a label.
 #[tactic(auto, using(c_tree::proofs::StatementViewLaws::statement_views))]
 fn is_label(item: &BlockItem) -> bool
-    ensures { (before : BlockItems) → result ≡ grammar.ends_in_label (block_item_view item.now before) }
+    ensures { (before : BlockItems) → result
+        ≡ grammar.ends_in_label (block_item_view item.now before) }
 {
     match item {
         BlockItem::Statement(_) | BlockItem::Declaration(_) => false,
@@ -48,14 +49,16 @@ fn ends_in_label(items: &[BlockItem]) -> bool
 impl<'a> Reader<'a> {
     /// Whether a declaration may stand after these items, and comes.
     fn begins_declaration(&self, items: &[BlockItem], next: Next<'_>) -> bool
-        ensures { result ≡ tests.begins_declaration (names_of self.now.names.now) (block_view items.now) (next_view next.entry) }
+        ensures { result ≡ tests.begins_declaration (names_of self.now.names.now)
+            (block_view items.now) (next_view next.entry) }
     {
         !ends_in_label(items) && begins_specifier(self.names, Scope::InBlock, next)
     }
 
     /// Whether an item may stand after these, in a block with labels or without, and comes.
     fn begins_item(&self, has_labels: bool, items: &[BlockItem], next: Next<'_>) -> bool
-        ensures { result ≡ tests.begins_item (names_of self.now.names.now) has_labels (block_view items.now) (next_view next.entry) }
+        ensures { result ≡ tests.begins_item (names_of self.now.names.now) has_labels
+            (block_view items.now) (next_view next.entry) }
     {
         (has_labels && begins_label(next))
             || self.begins_declaration(items, next)
@@ -69,7 +72,8 @@ impl<'a> Reader<'a> {
         mut items: Items<BlockItem>,
         start: LabelStart,
     ) -> Result<Items<BlockItem>, Stop>
-        ensures { Reads block_view (spec.with_label (names_of self.now.names.now) self.now.depth (block_view items) (label_view start) cursor.old) result cursor.new }
+        ensures { Reads block_view (spec.with_label (names_of self.now.names.now) self.now.depth
+            (block_view items) (label_view start) cursor.old) result cursor.new }
     {
         match start {
             LabelStart::Case(at) => {
@@ -95,7 +99,8 @@ impl<'a> Reader<'a> {
         cursor: &mut Cursor<'_>,
         mut items: Items<BlockItem>,
     ) -> Result<Items<BlockItem>, Stop>
-        ensures { Reads block_view (spec.next_declaration (names_of self.now.names.now) self.now.depth (block_view items) cursor.old) result cursor.new }
+        ensures { Reads block_view (spec.next_declaration (names_of self.now.names.now)
+            self.now.depth (block_view items) cursor.old) result cursor.new }
     {
         let declaration = self.declaration(cursor)?;
         items.push(BlockItem::Declaration(declaration))?;
@@ -113,8 +118,11 @@ impl<
         cursor: &mut Cursor<'_>,
         mut items: Items<BlockItem>,
     ) -> Result<Items<BlockItem>, Stop>
-        requires { NestsStatements self.now.reader.names.now self.now.reader.depth (S.pre self.now.read_inner) (S.post self.now.read_inner) }
-        ensures { Reads block_view (spec.next_statement (spec.statement (names_of self.now.reader.names.now) self.now.reader.depth) (block_view items) cursor.old) result cursor.new }
+        requires { NestsStatements self.now.reader.names.now self.now.reader.depth
+            (S.pre self.now.read_inner) (S.post self.now.read_inner) }
+        ensures { Reads block_view (spec.next_statement (spec.statement
+            (names_of self.now.reader.names.now) self.now.reader.depth)
+            (block_view items) cursor.old) result cursor.new }
     {
         let statement = self.statement(cursor)?;
         items.push(BlockItem::Statement(statement))?;
@@ -127,8 +135,11 @@ impl<
         cursor: &mut Cursor<'_>,
         items: Items<BlockItem>,
     ) -> Result<Items<BlockItem>, Stop>
-        requires { NestsStatements self.now.reader.names.now self.now.reader.depth (S.pre self.now.read_inner) (S.post self.now.read_inner) }
-        ensures { Reads block_view (spec.unlabelled (names_of self.now.reader.names.now) self.now.reader.depth (spec.statement (names_of self.now.reader.names.now) self.now.reader.depth) (block_view items) cursor.old) result cursor.new }
+        requires { NestsStatements self.now.reader.names.now self.now.reader.depth
+            (S.pre self.now.read_inner) (S.post self.now.read_inner) }
+        ensures { Reads block_view (spec.unlabelled (names_of self.now.reader.names.now)
+            self.now.reader.depth (spec.statement (names_of self.now.reader.names.now)
+            self.now.reader.depth) (block_view items) cursor.old) result cursor.new }
     {
         if self
             .reader
@@ -147,8 +158,11 @@ impl<
         has_labels: bool,
         items: Items<BlockItem>,
     ) -> Result<Items<BlockItem>, Stop>
-        requires { NestsStatements self.now.reader.names.now self.now.reader.depth (S.pre self.now.read_inner) (S.post self.now.read_inner) }
-        ensures { Reads block_view (spec.item_step (names_of self.now.reader.names.now) self.now.reader.depth (spec.statement (names_of self.now.reader.names.now) self.now.reader.depth) has_labels (block_view items) cursor.old) result cursor.new }
+        requires { NestsStatements self.now.reader.names.now self.now.reader.depth
+            (S.pre self.now.read_inner) (S.post self.now.read_inner) }
+        ensures { Reads block_view (spec.item_step (names_of self.now.reader.names.now)
+            self.now.reader.depth (spec.statement (names_of self.now.reader.names.now)
+            self.now.reader.depth) has_labels (block_view items) cursor.old) result cursor.new }
     {
         let next = cursor.peek();
         if has_labels && begins_label(next) {
@@ -159,8 +173,13 @@ impl<
     }
 
     fn items(&self, cursor: &mut Cursor<'_>, has_labels: bool) -> Result<Items<BlockItem>, Stop>
-        requires { NestsStatements self.now.reader.names.now self.now.reader.depth (S.pre self.now.read_inner) (S.post self.now.read_inner) }
-        ensures { Reads block_view (loop (tests.begins_item (names_of self.now.reader.names.now) has_labels) (spec.item_step (names_of self.now.reader.names.now) self.now.reader.depth (spec.statement (names_of self.now.reader.names.now) self.now.reader.depth) has_labels) NoBlockItem cursor.old) result cursor.new }
+        requires { NestsStatements self.now.reader.names.now self.now.reader.depth
+            (S.pre self.now.read_inner) (S.post self.now.read_inner) }
+        ensures { Reads block_view (loop (tests.begins_item
+            (names_of self.now.reader.names.now) has_labels)
+            (spec.item_step (names_of self.now.reader.names.now) self.now.reader.depth
+            (spec.statement (names_of self.now.reader.names.now) self.now.reader.depth) has_labels)
+            NoBlockItem cursor.old) result cursor.new }
     {
         let mut items = Items::new(self.reader.alloc);
         for _turn in 0..cursor.left() {
@@ -182,8 +201,11 @@ impl<
         cursor: &mut Cursor<'_>,
         has_labels: bool,
     ) -> Result<Items<BlockItem>, Stop>
-        requires { NestsStatements self.now.reader.names.now self.now.reader.depth (S.pre self.now.read_inner) (S.post self.now.read_inner) }
-        ensures { Reads block_view (spec.block_items (names_of self.now.reader.names.now) self.now.reader.depth (spec.statement (names_of self.now.reader.names.now) self.now.reader.depth) has_labels cursor.old) result cursor.new }
+        requires { NestsStatements self.now.reader.names.now self.now.reader.depth
+            (S.pre self.now.read_inner) (S.post self.now.read_inner) }
+        ensures { Reads block_view (spec.block_items (names_of self.now.reader.names.now)
+            self.now.reader.depth (spec.statement (names_of self.now.reader.names.now)
+            self.now.reader.depth) has_labels cursor.old) result cursor.new }
     {
         let items = self.items(cursor, has_labels)?;
         if ends_in_label(items.as_slice()) {

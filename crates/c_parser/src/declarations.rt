@@ -29,8 +29,14 @@ impl<'a> Reader<'a> {
         mut before: Items<InitDeclarator>,
         declarator: Declarator,
     ) -> Result<Items<InitDeclarator>, Stop>
-        ensures reads { Reads init_declarators_seen (by_first tests.equals_sign (spec.with_initialiser (names_of self.now.names.now) self.now.depth (init_declarators_seen before) (declarator_view declarator)) cursor.old) result cursor.new }
-        ensures names { IfOk result (λ list. (is_typedef : Bool) (base : TypeNames) → names_after_all is_typedef base (init_declarators_seen list) ≡ names_after is_typedef (names_after_all is_typedef base (init_declarators_seen before)) (declarator_view declarator)) }
+        ensures reads { Reads init_declarators_seen (by_first tests.equals_sign
+            (spec.with_initialiser (names_of self.now.names.now) self.now.depth
+            (init_declarators_seen before) (declarator_view declarator)) cursor.old) result
+            cursor.new }
+        ensures names { IfOk result (λ list. (is_typedef : Bool) (base : TypeNames)
+            → names_after_all is_typedef base (init_declarators_seen list)
+            ≡ names_after is_typedef (names_after_all is_typedef base
+            (init_declarators_seen before)) (declarator_view declarator)) }
     {
         let Some(at) = equals_sign(cursor.peek()) else {
             before.push(InitDeclarator::Plain(declarator))?;
@@ -49,7 +55,9 @@ impl<'a> Reader<'a> {
         cursor: &mut Cursor<'_>,
         before: Items<InitDeclarator>,
     ) -> Result<Items<InitDeclarator>, Stop>
-        ensures { Reads init_declarators_seen (spec.next_declarator (names_of self.now.names.now) false self.now.depth (init_declarators_seen before) cursor.old) result cursor.new }
+        ensures { Reads init_declarators_seen (spec.next_declarator
+            (names_of self.now.names.now) false self.now.depth
+            (init_declarators_seen before) cursor.old) result cursor.new }
     {
         let declarator = self.declarator(cursor)?;
         self.with_initialiser(cursor, before, declarator)
@@ -61,7 +69,9 @@ impl<'a> Reader<'a> {
         cursor: &mut Cursor<'_>,
         before: Items<InitDeclarator>,
     ) -> Result<Items<InitDeclarator>, Stop>
-        ensures { Reads init_declarators_seen (after_skip (spec.next_declarator (names_after_all false (names_of self.now.names.now) (init_declarators_seen before)) false self.now.depth (init_declarators_seen before)) cursor.old) result cursor.new }
+        ensures { Reads init_declarators_seen (after_skip (spec.next_declarator
+            (names_after_all false (names_of self.now.names.now) (init_declarators_seen before))
+            false self.now.depth (init_declarators_seen before)) cursor.old) result cursor.new }
     {
         cursor.skip()?;
         self.next_declarator(cursor, before)
@@ -73,7 +83,9 @@ impl<'a> Reader<'a> {
         cursor: &mut Cursor<'_>,
         first: Items<InitDeclarator>,
     ) -> Result<Items<InitDeclarator>, Stop>
-        ensures { Reads init_declarators_seen (spec.declarators_from (names_of self.now.names.now) false self.now.depth (init_declarators_seen first) cursor.old) result cursor.new }
+        ensures { Reads init_declarators_seen (spec.declarators_from
+            (names_of self.now.names.now) false self.now.depth
+            (init_declarators_seen first) cursor.old) result cursor.new }
     {
         let mut list = first;
         for _turn in 0..cursor.left() {
@@ -88,7 +100,8 @@ impl<'a> Reader<'a> {
     /// The declarators of a declaration that declares no type, if there are any.
     #[tactic(auto, unfolding(crate::specs::DeclarationRules::init_declarators))]
     fn init_declarators(&self, cursor: &mut Cursor<'_>) -> Result<Items<InitDeclarator>, Stop>
-        ensures { Reads init_declarators_seen (spec.init_declarators (names_of self.now.names.now) false self.now.depth cursor.old) result cursor.new }
+        ensures { Reads init_declarators_seen (spec.init_declarators
+            (names_of self.now.names.now) false self.now.depth cursor.old) result cursor.new }
     {
         let none = Items::new(self.alloc);
         if !begins_declarator(self.names, Naming::WithName, cursor.peek()) {
@@ -100,8 +113,10 @@ impl<'a> Reader<'a> {
 
     /// Specifiers in a block, where no `typedef` stands.
     fn block_specifiers(&self, cursor: &mut Cursor<'_>) -> Result<Specifiers, Stop>
-        ensures reads { Reads specifiers_view ((rules (names_of self.now.names.now) self.now.depth).specifiers InBlock cursor.old) result cursor.new }
-        ensures plain { IfOk result (λ specifiers. has_typedef (specifiers_view specifiers) ≡ false) }
+        ensures reads { Reads specifiers_view ((rules (names_of self.now.names.now)
+            self.now.depth).specifiers InBlock cursor.old) result cursor.new }
+        ensures plain { IfOk result (λ specifiers. has_typedef (specifiers_view specifiers)
+            ≡ false) }
     {
         self.specifiers(cursor, Scope::InBlock)
     }
@@ -109,7 +124,8 @@ impl<'a> Reader<'a> {
     /// A declaration in a block.
     #[tactic(auto, unfolding(crate::specs::DeclarationRules::declaration))]
     pub fn declaration(&self, cursor: &mut Cursor<'_>) -> Result<Declaration, Stop>
-        ensures { Reads declaration_view (spec.declaration (names_of self.now.names.now) InBlock self.now.depth cursor.old) result cursor.new }
+        ensures { Reads declaration_view (spec.declaration (names_of self.now.names.now) InBlock
+            self.now.depth cursor.old) result cursor.new }
     {
         let specifiers = self.block_specifiers(cursor)?;
         let declarators = self.init_declarators(cursor)?;

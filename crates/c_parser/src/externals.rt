@@ -44,7 +44,8 @@ fn is_typedef(specifier: &Specifier) -> bool
 }
 
 fn any_typedef(list: &[Specifier]) -> bool
-    ensures { result ≡ list_any (λ specifier. words.is_typedef (specifier_view specifier)) list.now }
+    ensures { result ≡ list_any (λ specifier. words.is_typedef (specifier_view specifier))
+        list.now }
 {
     list.iter().any(|specifier| is_typedef(specifier))
 }
@@ -64,7 +65,8 @@ fn declare(
     declarator: &Declarator,
 ) -> Result<(), NoMemory>
     requires { IsNew (names_of names.old) (declared_name (declarator_view declarator.now)) }
-    ensures { OnOk result (names_of names.new ≡ names_after is_typedef (names_of names.old) (declarator_view declarator.now)) }
+    ensures { OnOk result (names_of names.new ≡ names_after is_typedef (names_of names.old)
+        (declarator_view declarator.now)) }
 {
     if !is_typedef {
         return Ok(());
@@ -84,8 +86,10 @@ fn new_declarator(
     depth: u16,
     cursor: &mut Cursor<'_>,
 ) -> Result<Declarator, Stop>
-    ensures reads { Reads declarator_view ((rules (names_of names.now) depth).declarator grammar.WithName cursor.old) result cursor.new }
-    ensures new { IfOk result (λ x. IsNew (names_of names.now) (declared_name (declarator_view x))) }
+    ensures reads { Reads declarator_view ((rules (names_of names.now) depth).declarator
+        grammar.WithName cursor.old) result cursor.new }
+    ensures new { IfOk result (λ x. IsNew (names_of names.now)
+        (declared_name (declarator_view x))) }
 {
     Reader {
         alloc,
@@ -106,8 +110,13 @@ fn with_initialiser(
     declarator: Declarator,
 ) -> Result<Items<InitDeclarator>, Stop>
     requires { IsNew (names_of names.old) (declared_name (declarator_view declarator)) }
-    ensures reads { Reads init_declarators_seen (by_first tests.equals_sign (declarations.with_initialiser (names_after is_typedef (names_of names.old) (declarator_view declarator)) depth (init_declarators_seen before) (declarator_view declarator)) cursor.old) result cursor.new }
-    ensures names { IfOk result (λ list. (base : TypeNames) → names_of names.old ≡ names_after_all is_typedef base (init_declarators_seen before) → names_of names.new ≡ names_after_all is_typedef base (init_declarators_seen list)) }
+    ensures reads { Reads init_declarators_seen (by_first tests.equals_sign
+        (declarations.with_initialiser (names_after is_typedef (names_of names.old)
+        (declarator_view declarator)) depth (init_declarators_seen before)
+        (declarator_view declarator)) cursor.old) result cursor.new }
+    ensures names { IfOk result (λ list. (base : TypeNames) → names_of names.old
+        ≡ names_after_all is_typedef base (init_declarators_seen before) → names_of names.new
+        ≡ names_after_all is_typedef base (init_declarators_seen list)) }
 {
     if declare(alloc, names, is_typedef, &declarator).is_err() {
         return Err(Stop::NoMemory);
@@ -131,8 +140,12 @@ fn declarator_after_comma(
     cursor: &mut Cursor<'_>,
     before: Items<InitDeclarator>,
 ) -> Result<Items<InitDeclarator>, Stop>
-    ensures reads { Reads init_declarators_seen (after_skip (declarations.next_declarator (names_of names.old) is_typedef depth (init_declarators_seen before)) cursor.old) result cursor.new }
-    ensures names { IfOk result (λ list. (base : TypeNames) → names_of names.old ≡ names_after_all is_typedef base (init_declarators_seen before) → names_of names.new ≡ names_after_all is_typedef base (init_declarators_seen list)) }
+    ensures reads { Reads init_declarators_seen (after_skip (declarations.next_declarator
+        (names_of names.old) is_typedef depth (init_declarators_seen before)) cursor.old) result
+        cursor.new }
+    ensures names { IfOk result (λ list. (base : TypeNames) → names_of names.old
+        ≡ names_after_all is_typedef base (init_declarators_seen before) → names_of names.new
+        ≡ names_after_all is_typedef base (init_declarators_seen list)) }
 {
     cursor.skip()?;
     let declarator = new_declarator(alloc, &*names, depth, cursor)?;
@@ -151,8 +164,11 @@ fn declarators(
     declarator: Declarator,
 ) -> Result<Items<InitDeclarator>, Stop>
     requires { IsNew (names_of names.old) (declared_name (declarator_view declarator)) }
-    ensures reads { Reads init_declarators_seen (spec.declarators_after (names_of names.old) is_typedef depth (declarator_view declarator) cursor.old) result cursor.new }
-    ensures names { IfOk result (λ list. names_of names.new ≡ names_after_all is_typedef (names_of names.old) (init_declarators_seen list)) }
+    ensures reads { Reads init_declarators_seen (spec.declarators_after
+        (names_of names.old) is_typedef depth (declarator_view declarator) cursor.old) result
+        cursor.new }
+    ensures names { IfOk result (λ list. names_of names.new
+        ≡ names_after_all is_typedef (names_of names.old) (init_declarators_seen list)) }
 {
     let none = Items::new(alloc);
     let first = with_initialiser(alloc, names, depth, is_typedef, cursor, none, declarator)?;
@@ -175,8 +191,12 @@ fn function_body(
     specifiers: Specifiers,
     declarator: Declarator,
 ) -> Result<Items<External>, Stop>
-    requires { names_of reader.now.names.now ≡ names_after (words.has_typedef (specifiers_view specifiers)) (type_names (unit_seen unit)) (declarator_view declarator) }
-    ensures reads { Reads unit_seen (spec.function_body (unit_seen unit) (specifiers_view specifiers) (declarator_view declarator) reader.now.depth cursor.old) result cursor.new }
+    requires { names_of reader.now.names.now ≡ names_after
+        (words.has_typedef (specifiers_view specifiers)) (type_names (unit_seen unit))
+        (declarator_view declarator) }
+    ensures reads { Reads unit_seen (spec.function_body (unit_seen unit)
+        (specifiers_view specifiers) (declarator_view declarator) reader.now.depth cursor.old)
+        result cursor.new }
     ensures names { IfOk result (λ u. names_of reader.now.names.now ≡ type_names (unit_seen u)) }
 {
     if reader.depth == 0 {
@@ -214,7 +234,9 @@ fn function(
 ) -> Result<Items<External>, Stop>
     requires names { names_of names.old ≡ type_names (unit_seen unit) }
     requires new { IsNew (names_of names.old) (declared_name (declarator_view declarator)) }
-    ensures reads { Reads unit_seen (spec.function_body (unit_seen unit) (specifiers_view specifiers) (declarator_view declarator) depth cursor.old) result cursor.new }
+    ensures reads { Reads unit_seen (spec.function_body (unit_seen unit)
+        (specifiers_view specifiers) (declarator_view declarator) depth cursor.old) result
+        cursor.new }
     ensures names { IfOk result (λ u. names_of names.new ≡ type_names (unit_seen u)) }
 {
     if declare(alloc, names, has_typedef(&specifiers), &declarator).is_err() {
@@ -241,7 +263,9 @@ fn rest_of_declaration(
 ) -> Result<Items<External>, Stop>
     requires names { names_of names.old ≡ type_names (unit_seen unit) }
     requires new { IsNew (names_of names.old) (declared_name (declarator_view declarator)) }
-    ensures reads { Reads unit_seen (spec.after_declarator depth (unit_seen unit) (specifiers_view specifiers) (declarator_view declarator) None cursor.old) result cursor.new }
+    ensures reads { Reads unit_seen (spec.after_declarator depth (unit_seen unit)
+        (specifiers_view specifiers) (declarator_view declarator) None cursor.old) result
+        cursor.new }
     ensures names { IfOk result (λ u. names_of names.new ≡ type_names (unit_seen u)) }
 {
     let is_typedef = has_typedef(&specifiers);
@@ -267,7 +291,9 @@ fn after_declarator(
 ) -> Result<Items<External>, Stop>
     requires names { names_of names.old ≡ type_names (unit_seen unit) }
     requires new { IsNew (names_of names.old) (declared_name (declarator_view declarator)) }
-    ensures reads { Reads unit_seen (by_first tests.open_brace (spec.after_declarator depth (unit_seen unit) (specifiers_view specifiers) (declarator_view declarator)) cursor.old) result cursor.new }
+    ensures reads { Reads unit_seen (by_first tests.open_brace
+        (spec.after_declarator depth (unit_seen unit) (specifiers_view specifiers)
+        (declarator_view declarator)) cursor.old) result cursor.new }
     ensures names { IfOk result (λ u. names_of names.new ≡ type_names (unit_seen u)) }
 {
     match open_brace(cursor.peek()) {
@@ -286,7 +312,8 @@ fn external(
     mut unit: Items<External>,
 ) -> Result<Items<External>, Stop>
     requires { names_of names.old ≡ type_names (unit_seen unit) }
-    ensures reads { Reads unit_seen (spec.external depth (unit_seen unit) cursor.old) result cursor.new }
+    ensures reads { Reads unit_seen (spec.external depth (unit_seen unit) cursor.old) result
+        cursor.new }
     ensures names { IfOk result (λ u. names_of names.new ≡ type_names (unit_seen u)) }
 {
     let reader = Reader {
@@ -315,7 +342,8 @@ pub fn externals(
     cursor: &mut Cursor<'_>,
 ) -> Result<Items<External>, Stop>
     requires { names_of names.old ≡ [] }
-    ensures { Reads unit_seen (loop (λ unit. tests.begins_specifier (type_names unit) words.AtFile) (spec.external depth) tree.NoExternal cursor.old) result cursor.new }
+    ensures { Reads unit_seen (loop (λ unit. tests.begins_specifier (type_names unit) words.AtFile)
+        (spec.external depth) tree.NoExternal cursor.old) result cursor.new }
 {
     let mut unit = Items::new(alloc);
     for _turn in 0..cursor.left() {

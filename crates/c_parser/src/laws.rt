@@ -10,7 +10,8 @@ ghost use Rattle.c_parser.specs.Theorems.{OneAnswerIsRight};
 
 /// No two units in the grammar spell the same tokens.
 pub fn units_are_spelled_once()
-    ensures { (a b : TranslationUnit) (tokens : List Symbol) → SpellsUnit Supported a tokens → SpellsUnit Supported b tokens → a ≡ b }
+    ensures { (a b : TranslationUnit) (tokens : List Symbol) → SpellsUnit Supported a tokens
+        → SpellsUnit Supported b tokens → a ≡ b }
 {}
 
 /// Of the answers that are no stop at a depth, one at most is right.

@@ -28,14 +28,16 @@ pub struct Reader<'a> {
 impl<'a> Reader<'a> {
     /// An expression of at least a level.
     pub fn expr(&self, cursor: &mut Cursor<'_>, least: u8) -> Result<Expr, Stop>
-        ensures { Reads expr_view ((rules (names_of self.now.names.now) self.now.depth).expr least cursor.old) result cursor.new }
+        ensures { Reads expr_view ((rules (names_of self.now.names.now) self.now.depth).expr least
+            cursor.old) result cursor.new }
     {
         let part = read_expr(self.alloc, self.names, cursor, self.depth, least)?;
         Ok(part.tree)
     }
 
     pub fn specifiers(&self, cursor: &mut Cursor<'_>, scope: Scope) -> Result<Specifiers, Stop>
-        ensures { Reads specifiers_view ((rules (names_of self.now.names.now) self.now.depth).specifiers (scope_view scope) cursor.old) result cursor.new }
+        ensures { Reads specifiers_view ((rules (names_of self.now.names.now)
+            self.now.depth).specifiers (scope_view scope) cursor.old) result cursor.new }
     {
         let part = read_specifiers(self.alloc, self.names, cursor, self.depth, scope)?;
         Ok(part.tree)
@@ -43,14 +45,16 @@ impl<'a> Reader<'a> {
 
     /// A declarator with a name.
     pub fn declarator(&self, cursor: &mut Cursor<'_>) -> Result<Declarator, Stop>
-        ensures { Reads declarator_view ((rules (names_of self.now.names.now) self.now.depth).declarator (naming_view Naming.WithName) cursor.old) result cursor.new }
+        ensures { Reads declarator_view ((rules (names_of self.now.names.now)
+            self.now.depth).declarator (naming_view Naming.WithName) cursor.old) result cursor.new }
     {
         let part = read_declarator(self.alloc, self.names, cursor, self.depth, Naming::WithName)?;
         Ok(part.tree)
     }
 
     pub fn initialiser(&self, cursor: &mut Cursor<'_>) -> Result<Initialiser, Stop>
-        ensures { Reads initialiser_view (initialiser (names_of self.now.names.now) self.now.depth cursor.old) result cursor.new }
+        ensures { Reads initialiser_view (initialiser (names_of self.now.names.now) self.now.depth
+            cursor.old) result cursor.new }
     {
         let part = read_initialiser(self.alloc, self.names, cursor, self.depth)?;
         Ok(part.tree)
@@ -59,7 +63,8 @@ impl<'a> Reader<'a> {
     /// An expression that may be left out.
     #[tactic(auto, unfolding(crate::specs::StatementRules::optional))]
     pub fn optional(&self, cursor: &mut Cursor<'_>) -> Result<Option<Expr>, Stop>
-        ensures { Reads (λ e. option_map expr_view e) (spec.optional (names_of self.now.names.now) self.now.depth cursor.old) result cursor.new }
+        ensures { Reads (λ e. option_map expr_view e) (spec.optional
+            (names_of self.now.names.now) self.now.depth cursor.old) result cursor.new }
     {
         if !begins_expr(self.names, cursor.peek()) {
             return Ok(None);
@@ -71,7 +76,9 @@ impl<'a> Reader<'a> {
     /// An expression that may be left out, and the `;` after it.
     #[tactic(auto, unfolding(crate::specs::StatementRules::optional_then))]
     pub fn optional_semicolon(&self, cursor: &mut Cursor<'_>) -> Result<Option<Expr>, Stop>
-        ensures { Reads (λ e. option_map expr_view e) (spec.optional_then (names_of self.now.names.now) self.now.depth is_semicolon cursor.old) result cursor.new }
+        ensures { Reads (λ e. option_map expr_view e) (spec.optional_then
+            (names_of self.now.names.now) self.now.depth is_semicolon cursor.old) result
+            cursor.new }
     {
         let e = self.optional(cursor)?;
         expect_semicolon(cursor)?;
@@ -81,7 +88,9 @@ impl<'a> Reader<'a> {
     /// An expression that may be left out, and the `)` after it.
     #[tactic(auto, unfolding(crate::specs::StatementRules::optional_then))]
     pub fn optional_close_paren(&self, cursor: &mut Cursor<'_>) -> Result<Option<Expr>, Stop>
-        ensures { Reads (λ e. option_map expr_view e) (spec.optional_then (names_of self.now.names.now) self.now.depth is_close_paren cursor.old) result cursor.new }
+        ensures { Reads (λ e. option_map expr_view e) (spec.optional_then
+            (names_of self.now.names.now) self.now.depth is_close_paren cursor.old) result
+            cursor.new }
     {
         let e = self.optional(cursor)?;
         expect_close_paren(cursor)?;
@@ -91,7 +100,8 @@ impl<'a> Reader<'a> {
     /// An expression in parentheses, after the `(`.
     #[tactic(auto, unfolding(crate::specs::StatementRules::condition))]
     pub fn condition(&self, cursor: &mut Cursor<'_>) -> Result<Expr, Stop>
-        ensures { Reads expr_view (spec.condition (names_of self.now.names.now) self.now.depth cursor.old) result cursor.new }
+        ensures { Reads expr_view (spec.condition (names_of self.now.names.now) self.now.depth
+            cursor.old) result cursor.new }
     {
         let e = self.expr(cursor, 0)?;
         expect_close_paren(cursor)?;

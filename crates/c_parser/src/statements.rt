@@ -37,7 +37,8 @@ fn made_for(
     step: Option<Expr>,
     body: Boxed<Statement>,
 ) -> Statement
-    ensures { statement_view result ≡ for_made at paren start (option_map expr_view test) (option_map expr_view step) (statement_view body) }
+    ensures { statement_view result ≡ for_made at paren start (option_map expr_view test)
+        (option_map expr_view step) (statement_view body) }
 {
     match start {
         ForStart::Expr(first) => Statement::For(at, paren, first, test, step, body),
@@ -62,8 +63,10 @@ impl<
 > Statements<'a, S> {
     /// A statement inside another one.
     pub fn statement(&self, cursor: &mut Cursor<'_>) -> Result<Statement, Stop>
-        requires { NestsStatements self.now.reader.names.now self.now.reader.depth (S.pre self.now.read_inner) (S.post self.now.read_inner) }
-        ensures { Reads statement_view (spec.statement (names_of self.now.reader.names.now) self.now.reader.depth cursor.old) result cursor.new }
+        requires { NestsStatements self.now.reader.names.now self.now.reader.depth
+            (S.pre self.now.read_inner) (S.post self.now.read_inner) }
+        ensures { Reads statement_view (spec.statement (names_of self.now.reader.names.now)
+            self.now.reader.depth cursor.old) result cursor.new }
     {
         (self.read_inner)(
             self.reader.alloc,
@@ -74,8 +77,10 @@ impl<
     }
 
     fn inner(&self, cursor: &mut Cursor<'_>) -> Result<Boxed<Statement>, Stop>
-        requires { NestsStatements self.now.reader.names.now self.now.reader.depth (S.pre self.now.read_inner) (S.post self.now.read_inner) }
-        ensures { Reads statement_view (spec.statement (names_of self.now.reader.names.now) self.now.reader.depth cursor.old) result cursor.new }
+        requires { NestsStatements self.now.reader.names.now self.now.reader.depth
+            (S.pre self.now.read_inner) (S.post self.now.read_inner) }
+        ensures { Reads statement_view (spec.statement (names_of self.now.reader.names.now)
+            self.now.reader.depth cursor.old) result cursor.new }
     {
         let statement = self.statement(cursor)?;
         Ok(Boxed::new(self.reader.alloc, statement)?)
@@ -91,8 +96,11 @@ impl<
         test: Expr,
         then: Boxed<Statement>,
     ) -> Result<Statement, Stop>
-        requires { NestsStatements self.now.reader.names.now self.now.reader.depth (S.pre self.now.read_inner) (S.post self.now.read_inner) }
-        ensures { Reads statement_view (spec.with_else (spec.statement (names_of self.now.reader.names.now) self.now.reader.depth) at paren (expr_view test) (statement_view then) cursor.old) result cursor.new }
+        requires { NestsStatements self.now.reader.names.now self.now.reader.depth
+            (S.pre self.now.read_inner) (S.post self.now.read_inner) }
+        ensures { Reads statement_view (spec.with_else (spec.statement
+            (names_of self.now.reader.names.now) self.now.reader.depth) at paren (expr_view test)
+            (statement_view then) cursor.old) result cursor.new }
     {
         if !is_else(cursor.peek()) {
             return Ok(Statement::If(at, paren, test, then));
@@ -104,8 +112,12 @@ impl<
 
     #[tactic(auto, unfolding(crate::specs::StatementRules::statement_from, c_parse_words::specs::WordRules::take))]
     fn if_statement(&self, cursor: &mut Cursor<'_>, at: Place) -> Result<Statement, Stop>
-        requires { NestsStatements self.now.reader.names.now self.now.reader.depth (S.pre self.now.read_inner) (S.post self.now.read_inner) }
-        ensures { Reads statement_view (spec.statement_from (names_of self.now.reader.names.now) self.now.reader.depth (spec.statement (names_of self.now.reader.names.now) self.now.reader.depth) (tests.StartIf at) cursor.old) result cursor.new }
+        requires { NestsStatements self.now.reader.names.now self.now.reader.depth
+            (S.pre self.now.read_inner) (S.post self.now.read_inner) }
+        ensures { Reads statement_view (spec.statement_from
+            (names_of self.now.reader.names.now) self.now.reader.depth
+            (spec.statement (names_of self.now.reader.names.now) self.now.reader.depth)
+            (tests.StartIf at) cursor.old) result cursor.new }
     {
         cursor.skip()?;
         let paren = take_open_paren(cursor)?;
@@ -116,8 +128,12 @@ impl<
 
     #[tactic(auto, using(c_tree::proofs::StatementViewLaws::statement_views), unfolding(crate::specs::StatementRules::statement_from, c_parse_words::specs::WordRules::take))]
     fn switch_statement(&self, cursor: &mut Cursor<'_>, at: Place) -> Result<Statement, Stop>
-        requires { NestsStatements self.now.reader.names.now self.now.reader.depth (S.pre self.now.read_inner) (S.post self.now.read_inner) }
-        ensures { Reads statement_view (spec.statement_from (names_of self.now.reader.names.now) self.now.reader.depth (spec.statement (names_of self.now.reader.names.now) self.now.reader.depth) (tests.StartSwitch at) cursor.old) result cursor.new }
+        requires { NestsStatements self.now.reader.names.now self.now.reader.depth
+            (S.pre self.now.read_inner) (S.post self.now.read_inner) }
+        ensures { Reads statement_view (spec.statement_from
+            (names_of self.now.reader.names.now) self.now.reader.depth
+            (spec.statement (names_of self.now.reader.names.now) self.now.reader.depth)
+            (tests.StartSwitch at) cursor.old) result cursor.new }
     {
         cursor.skip()?;
         let paren = take_open_paren(cursor)?;
@@ -130,8 +146,12 @@ impl<
 
     #[tactic(auto, using(c_tree::proofs::StatementViewLaws::statement_views), unfolding(crate::specs::StatementRules::statement_from, c_parse_words::specs::WordRules::take))]
     fn while_statement(&self, cursor: &mut Cursor<'_>, at: Place) -> Result<Statement, Stop>
-        requires { NestsStatements self.now.reader.names.now self.now.reader.depth (S.pre self.now.read_inner) (S.post self.now.read_inner) }
-        ensures { Reads statement_view (spec.statement_from (names_of self.now.reader.names.now) self.now.reader.depth (spec.statement (names_of self.now.reader.names.now) self.now.reader.depth) (tests.StartWhile at) cursor.old) result cursor.new }
+        requires { NestsStatements self.now.reader.names.now self.now.reader.depth
+            (S.pre self.now.read_inner) (S.post self.now.read_inner) }
+        ensures { Reads statement_view (spec.statement_from
+            (names_of self.now.reader.names.now) self.now.reader.depth
+            (spec.statement (names_of self.now.reader.names.now) self.now.reader.depth)
+            (tests.StartWhile at) cursor.old) result cursor.new }
     {
         cursor.skip()?;
         let paren = take_open_paren(cursor)?;
@@ -142,8 +162,12 @@ impl<
 
     #[tactic(auto, using(c_tree::proofs::StatementViewLaws::statement_views), unfolding(crate::specs::StatementRules::statement_from, c_parse_words::specs::WordRules::take))]
     fn do_statement(&self, cursor: &mut Cursor<'_>) -> Result<Statement, Stop>
-        requires { NestsStatements self.now.reader.names.now self.now.reader.depth (S.pre self.now.read_inner) (S.post self.now.read_inner) }
-        ensures { Reads statement_view (spec.statement_from (names_of self.now.reader.names.now) self.now.reader.depth (spec.statement (names_of self.now.reader.names.now) self.now.reader.depth) tests.StartDo cursor.old) result cursor.new }
+        requires { NestsStatements self.now.reader.names.now self.now.reader.depth
+            (S.pre self.now.read_inner) (S.post self.now.read_inner) }
+        ensures { Reads statement_view (spec.statement_from
+            (names_of self.now.reader.names.now) self.now.reader.depth
+            (spec.statement (names_of self.now.reader.names.now) self.now.reader.depth)
+            tests.StartDo cursor.old) result cursor.new }
     {
         cursor.skip()?;
         let body = self.inner(cursor)?;
@@ -164,8 +188,11 @@ impl<
         paren: Place,
         start: ForStart,
     ) -> Result<Statement, Stop>
-        requires { NestsStatements self.now.reader.names.now self.now.reader.depth (S.pre self.now.read_inner) (S.post self.now.read_inner) }
-        ensures { Reads statement_view (spec.for_rest (names_of self.now.reader.names.now) self.now.reader.depth (spec.statement (names_of self.now.reader.names.now) self.now.reader.depth) (for_made at paren start) cursor.old) result cursor.new }
+        requires { NestsStatements self.now.reader.names.now self.now.reader.depth
+            (S.pre self.now.read_inner) (S.post self.now.read_inner) }
+        ensures { Reads statement_view (spec.for_rest (names_of self.now.reader.names.now)
+            self.now.reader.depth (spec.statement (names_of self.now.reader.names.now)
+            self.now.reader.depth) (for_made at paren start) cursor.old) result cursor.new }
     {
         let test = self.reader.optional_semicolon(cursor)?;
         let step = self.reader.optional_close_paren(cursor)?;
@@ -175,8 +202,11 @@ impl<
 
     #[tactic(auto, unfolding(crate::specs::StatementRules::for_expr))]
     fn for_expr(&self, cursor: &mut Cursor<'_>, at: Place, paren: Place) -> Result<Statement, Stop>
-        requires { NestsStatements self.now.reader.names.now self.now.reader.depth (S.pre self.now.read_inner) (S.post self.now.read_inner) }
-        ensures { Reads statement_view (spec.for_expr (names_of self.now.reader.names.now) self.now.reader.depth (spec.statement (names_of self.now.reader.names.now) self.now.reader.depth) at paren cursor.old) result cursor.new }
+        requires { NestsStatements self.now.reader.names.now self.now.reader.depth
+            (S.pre self.now.read_inner) (S.post self.now.read_inner) }
+        ensures { Reads statement_view (spec.for_expr (names_of self.now.reader.names.now)
+            self.now.reader.depth (spec.statement (names_of self.now.reader.names.now)
+            self.now.reader.depth) at paren cursor.old) result cursor.new }
     {
         let first = self.reader.optional(cursor)?;
         expect_semicolon(cursor)?;
@@ -190,8 +220,12 @@ impl<
         at: Place,
         paren: Place,
     ) -> Result<Statement, Stop>
-        requires { NestsStatements self.now.reader.names.now self.now.reader.depth (S.pre self.now.read_inner) (S.post self.now.read_inner) }
-        ensures { Reads statement_view (spec.for_declaration (names_of self.now.reader.names.now) self.now.reader.depth (spec.statement (names_of self.now.reader.names.now) self.now.reader.depth) at paren cursor.old) result cursor.new }
+        requires { NestsStatements self.now.reader.names.now self.now.reader.depth
+            (S.pre self.now.read_inner) (S.post self.now.read_inner) }
+        ensures { Reads statement_view (spec.for_declaration
+            (names_of self.now.reader.names.now) self.now.reader.depth
+            (spec.statement (names_of self.now.reader.names.now) self.now.reader.depth) at paren
+            cursor.old) result cursor.new }
     {
         let first = self.reader.declaration(cursor)?;
         self.for_rest(cursor, at, paren, ForStart::Declaration(first))
@@ -199,8 +233,12 @@ impl<
 
     #[tactic(auto, unfolding(crate::specs::StatementRules::statement_from, c_parse_words::specs::WordRules::take))]
     fn for_statement(&self, cursor: &mut Cursor<'_>, at: Place) -> Result<Statement, Stop>
-        requires { NestsStatements self.now.reader.names.now self.now.reader.depth (S.pre self.now.read_inner) (S.post self.now.read_inner) }
-        ensures { Reads statement_view (spec.statement_from (names_of self.now.reader.names.now) self.now.reader.depth (spec.statement (names_of self.now.reader.names.now) self.now.reader.depth) (tests.StartFor at) cursor.old) result cursor.new }
+        requires { NestsStatements self.now.reader.names.now self.now.reader.depth
+            (S.pre self.now.read_inner) (S.post self.now.read_inner) }
+        ensures { Reads statement_view (spec.statement_from
+            (names_of self.now.reader.names.now) self.now.reader.depth
+            (spec.statement (names_of self.now.reader.names.now) self.now.reader.depth)
+            (tests.StartFor at) cursor.old) result cursor.new }
     {
         cursor.skip()?;
         let paren = take_open_paren(cursor)?;
@@ -214,8 +252,12 @@ impl<
     /// A block from its `{`.
     #[tactic(auto, using(c_tree::proofs::StatementViewLaws::statement_views), unfolding(crate::specs::StatementRules::statement_from))]
     fn block(&self, cursor: &mut Cursor<'_>, brace: Place) -> Result<Statement, Stop>
-        requires { NestsStatements self.now.reader.names.now self.now.reader.depth (S.pre self.now.read_inner) (S.post self.now.read_inner) }
-        ensures { Reads statement_view (spec.statement_from (names_of self.now.reader.names.now) self.now.reader.depth (spec.statement (names_of self.now.reader.names.now) self.now.reader.depth) (tests.StartBlock brace) cursor.old) result cursor.new }
+        requires { NestsStatements self.now.reader.names.now self.now.reader.depth
+            (S.pre self.now.read_inner) (S.post self.now.read_inner) }
+        ensures { Reads statement_view (spec.statement_from
+            (names_of self.now.reader.names.now) self.now.reader.depth
+            (spec.statement (names_of self.now.reader.names.now) self.now.reader.depth)
+            (tests.StartBlock brace) cursor.old) result cursor.new }
     {
         cursor.skip()?;
         let items = self.block_items(cursor, false)?;
@@ -225,8 +267,12 @@ impl<
 
     #[tactic(auto, using(c_tree::proofs::StatementViewLaws::statement_views), unfolding(crate::specs::StatementRules::statement_from))]
     fn return_statement(&self, cursor: &mut Cursor<'_>, at: Place) -> Result<Statement, Stop>
-        requires { NestsStatements self.now.reader.names.now self.now.reader.depth (S.pre self.now.read_inner) (S.post self.now.read_inner) }
-        ensures { Reads statement_view (spec.statement_from (names_of self.now.reader.names.now) self.now.reader.depth (spec.statement (names_of self.now.reader.names.now) self.now.reader.depth) (tests.StartReturn at) cursor.old) result cursor.new }
+        requires { NestsStatements self.now.reader.names.now self.now.reader.depth
+            (S.pre self.now.read_inner) (S.post self.now.read_inner) }
+        ensures { Reads statement_view (spec.statement_from
+            (names_of self.now.reader.names.now) self.now.reader.depth
+            (spec.statement (names_of self.now.reader.names.now) self.now.reader.depth)
+            (tests.StartReturn at) cursor.old) result cursor.new }
     {
         cursor.skip()?;
         let e = self.reader.optional(cursor)?;
@@ -236,8 +282,12 @@ impl<
 
     #[tactic(auto, using(c_tree::proofs::StatementViewLaws::statement_views), unfolding(crate::specs::StatementRules::statement_from))]
     fn expression_statement(&self, cursor: &mut Cursor<'_>) -> Result<Statement, Stop>
-        requires { NestsStatements self.now.reader.names.now self.now.reader.depth (S.pre self.now.read_inner) (S.post self.now.read_inner) }
-        ensures { Reads statement_view (spec.statement_from (names_of self.now.reader.names.now) self.now.reader.depth (spec.statement (names_of self.now.reader.names.now) self.now.reader.depth) tests.NoStatementStart cursor.old) result cursor.new }
+        requires { NestsStatements self.now.reader.names.now self.now.reader.depth
+            (S.pre self.now.read_inner) (S.post self.now.read_inner) }
+        ensures { Reads statement_view (spec.statement_from
+            (names_of self.now.reader.names.now) self.now.reader.depth
+            (spec.statement (names_of self.now.reader.names.now) self.now.reader.depth)
+            tests.NoStatementStart cursor.old) result cursor.new }
     {
         let e = self.reader.expr(cursor, 0)?;
         expect_semicolon(cursor)?;
@@ -246,8 +296,12 @@ impl<
 
     #[tactic(auto, using(c_tree::proofs::StatementViewLaws::statement_views), unfolding(crate::specs::StatementRules::statement_from))]
     fn break_statement(&self, cursor: &mut Cursor<'_>, at: Place) -> Result<Statement, Stop>
-        requires { NestsStatements self.now.reader.names.now self.now.reader.depth (S.pre self.now.read_inner) (S.post self.now.read_inner) }
-        ensures { Reads statement_view (spec.statement_from (names_of self.now.reader.names.now) self.now.reader.depth (spec.statement (names_of self.now.reader.names.now) self.now.reader.depth) (tests.StartBreak at) cursor.old) result cursor.new }
+        requires { NestsStatements self.now.reader.names.now self.now.reader.depth
+            (S.pre self.now.read_inner) (S.post self.now.read_inner) }
+        ensures { Reads statement_view (spec.statement_from
+            (names_of self.now.reader.names.now) self.now.reader.depth
+            (spec.statement (names_of self.now.reader.names.now) self.now.reader.depth)
+            (tests.StartBreak at) cursor.old) result cursor.new }
     {
         cursor.skip()?;
         expect_semicolon(cursor)?;
@@ -256,8 +310,12 @@ impl<
 
     #[tactic(auto, using(c_tree::proofs::StatementViewLaws::statement_views), unfolding(crate::specs::StatementRules::statement_from))]
     fn continue_statement(&self, cursor: &mut Cursor<'_>, at: Place) -> Result<Statement, Stop>
-        requires { NestsStatements self.now.reader.names.now self.now.reader.depth (S.pre self.now.read_inner) (S.post self.now.read_inner) }
-        ensures { Reads statement_view (spec.statement_from (names_of self.now.reader.names.now) self.now.reader.depth (spec.statement (names_of self.now.reader.names.now) self.now.reader.depth) (tests.StartContinue at) cursor.old) result cursor.new }
+        requires { NestsStatements self.now.reader.names.now self.now.reader.depth
+            (S.pre self.now.read_inner) (S.post self.now.read_inner) }
+        ensures { Reads statement_view (spec.statement_from
+            (names_of self.now.reader.names.now) self.now.reader.depth
+            (spec.statement (names_of self.now.reader.names.now) self.now.reader.depth)
+            (tests.StartContinue at) cursor.old) result cursor.new }
     {
         cursor.skip()?;
         expect_semicolon(cursor)?;
@@ -266,8 +324,12 @@ impl<
 
     #[tactic(auto, using(c_tree::proofs::StatementViewLaws::statement_views), unfolding(crate::specs::StatementRules::statement_from))]
     fn empty_statement(&self, cursor: &mut Cursor<'_>) -> Result<Statement, Stop>
-        requires { NestsStatements self.now.reader.names.now self.now.reader.depth (S.pre self.now.read_inner) (S.post self.now.read_inner) }
-        ensures { Reads statement_view (spec.statement_from (names_of self.now.reader.names.now) self.now.reader.depth (spec.statement (names_of self.now.reader.names.now) self.now.reader.depth) tests.StartEmpty cursor.old) result cursor.new }
+        requires { NestsStatements self.now.reader.names.now self.now.reader.depth
+            (S.pre self.now.read_inner) (S.post self.now.read_inner) }
+        ensures { Reads statement_view (spec.statement_from
+            (names_of self.now.reader.names.now) self.now.reader.depth
+            (spec.statement (names_of self.now.reader.names.now) self.now.reader.depth)
+            tests.StartEmpty cursor.old) result cursor.new }
     {
         cursor.skip()?;
         Ok(Statement::Empty)
@@ -279,8 +341,12 @@ impl<
         cursor: &mut Cursor<'_>,
         start: StatementStart,
     ) -> Result<Statement, Stop>
-        requires { NestsStatements self.now.reader.names.now self.now.reader.depth (S.pre self.now.read_inner) (S.post self.now.read_inner) }
-        ensures { Reads statement_view (spec.statement_from (names_of self.now.reader.names.now) self.now.reader.depth (spec.statement (names_of self.now.reader.names.now) self.now.reader.depth) (start_view start) cursor.old) result cursor.new }
+        requires { NestsStatements self.now.reader.names.now self.now.reader.depth
+            (S.pre self.now.read_inner) (S.post self.now.read_inner) }
+        ensures { Reads statement_view (spec.statement_from
+            (names_of self.now.reader.names.now) self.now.reader.depth
+            (spec.statement (names_of self.now.reader.names.now) self.now.reader.depth)
+            (start_view start) cursor.old) result cursor.new }
     {
         match start {
             StatementStart::Block(brace) => self.block(cursor, brace),
@@ -305,7 +371,8 @@ pub fn read_statement(
     cursor: &mut Cursor<'_>,
     depth: u16,
 ) -> Result<Statement, Stop>
-    ensures { Reads statement_view (spec.statement (names_of names.now) depth cursor.old) result cursor.new }
+    ensures { Reads statement_view (spec.statement (names_of names.now) depth cursor.old) result
+        cursor.new }
 {
     let next = cursor.peek();
     if depth == 0 {

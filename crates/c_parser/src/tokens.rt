@@ -41,7 +41,8 @@ pub fn take_open_brace(cursor: &mut Cursor<'_>) -> Result<Place, Stop>
 }
 
 pub fn expect_semicolon(cursor: &mut Cursor<'_>) -> Result<(), Stop>
-    ensures { Reads (λ _. head cursor.old) (expect tests.is_semicolon cursor.old) result cursor.new }
+    ensures { Reads (λ _. head cursor.old)
+        (expect tests.is_semicolon cursor.old) result cursor.new }
 {
     let found = is_semicolon(cursor.peek());
     cursor.expect(found)
@@ -55,14 +56,16 @@ pub fn expect_colon(cursor: &mut Cursor<'_>) -> Result<(), Stop>
 }
 
 pub fn expect_close_paren(cursor: &mut Cursor<'_>) -> Result<(), Stop>
-    ensures { Reads (λ _. head cursor.old) (expect tests.is_close_paren cursor.old) result cursor.new }
+    ensures { Reads (λ _. head cursor.old) (expect tests.is_close_paren cursor.old) result
+        cursor.new }
 {
     let found = is_close_paren(cursor.peek());
     cursor.expect(found)
 }
 
 pub fn expect_close_brace(cursor: &mut Cursor<'_>) -> Result<(), Stop>
-    ensures { Reads (λ _. head cursor.old) (expect tests.is_close_brace cursor.old) result cursor.new }
+    ensures { Reads (λ _. head cursor.old) (expect tests.is_close_brace cursor.old) result
+        cursor.new }
 {
     let found = is_close_brace(cursor.peek());
     cursor.expect(found)

@@ -51,11 +51,14 @@ fn read_unit(alloc: Global, depth: u16, cursor: &mut Cursor<'_>) -> Result<Unit,
 pub fn parse_unit(alloc: Global, text: &[u8], toks: &[Token<'_>]) -> Result<Unit, Fault>
     requires text { length text.now ≤ 1048576 }
     requires tokens { IsCut text.now toks.now }
-    ensures read { IfOk result (λ unit. UnitAnswered 256 (map symbol_of toks.now) (Read (unit_view unit) [])) }
-    ensures refused { IfErr result (IsFault (UnitAnswered 256 (map symbol_of toks.now)) text.now toks.now) }
+    ensures read { IfOk result (λ unit. UnitAnswered 256 (map symbol_of toks.now)
+        (Read (unit_view unit) [])) }
+    ensures refused { IfErr result (IsFault (UnitAnswered 256 (map symbol_of toks.now)) text.now
+        toks.now) }
 
     // A unit in the grammar that spells the tokens and is low enough is not refused.
-    ensures accepts { (unit : TranslationUnit) → SpellsUnit Supported unit (map symbol_of toks.now) → unit_height unit ≤ 256
+    ensures accepts { (unit : TranslationUnit) → SpellsUnit Supported unit (map symbol_of toks.now)
+        → unit_height unit ≤ 256
         → IsOkAnd result (λ u. unit_view u ≡ unit) ⊎ (result ≡ Err Fault.NoMemory) }
 {
     let mut cursor = Cursor::new(&toks[..]);

@@ -12,7 +12,8 @@ use cc_base::{NodeId, Place, TypeId};
 /// Appends a node.
 fn put(out: &mut Found, place: Place, node: NodeId, home: bool)
     ensures { out.new.fine ≡ true → (out.old.fine ≡ true)
-        × (out.new.nodes.items ≡ out.old.nodes.items ++ record { place = place; node = node; home = home } ∷ []) }
+        × (out.new.nodes.items ≡ out.old.nodes.items ++ record
+        { place = place; node = node; home = home } ∷ []) }
 {
     let one = Printed { place, node, home };
     if out.nodes.push(one).is_err() {

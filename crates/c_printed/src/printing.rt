@@ -20,7 +20,8 @@ use cc_base::TypeId;
 /// Arguments in order.
 #[cycle(printing)]
 fn arguments(out: &mut Found, all: &[TypedExpr])
-    ensures { Prints (made_by_arguments (typed_arguments_of (map typed_expr_view all.now))) out.old out.new }
+    ensures { Prints (made_by_arguments (typed_arguments_of (map typed_expr_view all.now))) out.old
+        out.new }
 {
     for e in all {
         expr(out, e)
@@ -169,7 +170,8 @@ pub(crate) fn specifiers(out: &mut Found, one: &TypedSpecifiers)
 
 #[cycle(printing)]
 fn specifier_list(out: &mut Found, all: &[TypedSpecifier])
-    ensures { Prints (made_by_specifier_list (typed_specifiers_of (map typed_specifier_view all.now))) out.old out.new }
+    ensures { Prints (made_by_specifier_list (typed_specifiers_of
+        (map typed_specifier_view all.now))) out.old out.new }
 {
     for one in all {
         specifier(out, one)
@@ -192,7 +194,8 @@ fn specifier(out: &mut Found, one: &TypedSpecifier)
 
 #[cycle(printing)]
 fn member_rows(out: &mut Found, all: &[TypedMembers])
-    ensures { Prints (made_by_members (added typed.NoMember (map typed_members_view all.now))) out.old out.new }
+    ensures { Prints (made_by_members (added typed.NoMember (map typed_members_view all.now)))
+        out.old out.new }
 {
     for row in all {
         member_row(out, row)
@@ -202,7 +205,8 @@ fn member_rows(out: &mut Found, all: &[TypedMembers])
 /// A row of members behind others.
 #[cycle(printing)]
 fn member_row(out: &mut Found, row: &TypedMembers)
-    ensures { (all : typed.TypedMembers) (start : Seen) → Prints (made_by_members all) start out.old → Prints (made_by_members (typed_members_view row.now all)) start out.new }
+    ensures { (all : typed.TypedMembers) (start : Seen) → Prints (made_by_members all) start out.old
+        → Prints (made_by_members (typed_members_view row.now all)) start out.new }
 {
     specifiers(out, &row.specifiers);
     member_declarators(out, row.declarators.as_slice())
@@ -210,7 +214,8 @@ fn member_row(out: &mut Found, row: &TypedMembers)
 
 #[cycle(printing)]
 fn member_declarators(out: &mut Found, all: &[TypedDeclarator])
-    ensures { Prints (made_by_member_declarators (typed_member_declarators_of (map typed_declarator_view all.now))) out.old out.new }
+    ensures { Prints (made_by_member_declarators (typed_member_declarators_of
+        (map typed_declarator_view all.now))) out.old out.new }
 {
     for one in all {
         declarator(out, one)
@@ -219,7 +224,8 @@ fn member_declarators(out: &mut Found, all: &[TypedDeclarator])
 
 #[cycle(printing)]
 fn enumerators(out: &mut Found, all: &[TypedEnumerator])
-    ensures { Prints (made_by_enumerators (added typed.NoEnumerator (map typed_enumerator_view all.now))) out.old out.new }
+    ensures { Prints (made_by_enumerators (added typed.NoEnumerator
+        (map typed_enumerator_view all.now))) out.old out.new }
 {
     for one in all {
         enumerator(out, one)
@@ -229,7 +235,9 @@ fn enumerators(out: &mut Found, all: &[TypedEnumerator])
 /// An enumerator behind others.
 #[cycle(printing)]
 fn enumerator(out: &mut Found, one: &TypedEnumerator)
-    ensures { (all : typed.TypedEnumerators) (start : Seen) → Prints (made_by_enumerators all) start out.old → Prints (made_by_enumerators (typed_enumerator_view one.now all)) start out.new }
+    ensures { (all : typed.TypedEnumerators) (start : Seen)
+        → Prints (made_by_enumerators all) start out.old
+        → Prints (made_by_enumerators (typed_enumerator_view one.now all)) start out.new }
 {
     match one {
         TypedEnumerator::Plain(_, _) => {}
@@ -247,7 +255,8 @@ pub(crate) fn declarator(out: &mut Found, one: &TypedDeclarator)
 
 #[cycle(printing)]
 fn declared(out: &mut Found, one: &Option<TypedForm>, t: TypeId)
-    ensures { Prints (made_by_declared (typed_declared_of (option_map typed_form_view one.now)) t) out.old out.new }
+    ensures { Prints (made_by_declared (typed_declared_of (option_map typed_form_view one.now)) t)
+        out.old out.new }
 {
     match one {
         Some(one) => form(out, one, t),
@@ -277,7 +286,8 @@ fn core(out: &mut Found, one: &TypedCore, t: TypeId)
 
 #[cycle(printing)]
 fn parts_behind(out: &mut Found, all: &[TypedPart])
-    ensures { Prints (made_by_parts (added typed.NoPart (map typed_part_view all.now))) out.old out.new }
+    ensures { Prints (made_by_parts (added typed.NoPart (map typed_part_view all.now))) out.old
+        out.new }
 {
     for one in all {
         part(out, one)
@@ -287,7 +297,8 @@ fn parts_behind(out: &mut Found, all: &[TypedPart])
 /// A part behind others.
 #[cycle(printing)]
 fn part(out: &mut Found, one: &TypedPart)
-    ensures { (all : typed.TypedParts) (start : Seen) → Prints (made_by_parts all) start out.old → Prints (made_by_parts (typed_part_view one.now all)) start out.new }
+    ensures { (all : typed.TypedParts) (start : Seen) → Prints (made_by_parts all) start out.old
+        → Prints (made_by_parts (typed_part_view one.now all)) start out.new }
 {
     match one {
         TypedPart::Array(_, _) => {}
@@ -298,7 +309,8 @@ fn part(out: &mut Found, one: &TypedPart)
 
 #[cycle(printing)]
 fn parameters(out: &mut Found, all: &[TypedParameter])
-    ensures { Prints (made_by_parameters (added typed.NoParameter (map typed_parameter_view all.now))) out.old out.new }
+    ensures { Prints (made_by_parameters (added typed.NoParameter
+        (map typed_parameter_view all.now))) out.old out.new }
 {
     for one in all {
         parameter(out, one)
@@ -308,7 +320,9 @@ fn parameters(out: &mut Found, all: &[TypedParameter])
 /// A parameter behind others.
 #[cycle(printing)]
 fn parameter(out: &mut Found, one: &TypedParameter)
-    ensures { (all : typed.TypedParameters) (start : Seen) → Prints (made_by_parameters all) start out.old → Prints (made_by_parameters (typed_parameter_view one.now all)) start out.new }
+    ensures { (all : typed.TypedParameters) (start : Seen)
+        → Prints (made_by_parameters all) start out.old
+        → Prints (made_by_parameters (typed_parameter_view one.now all)) start out.new }
 {
     specifiers(out, &one.specifiers);
     declared(out, &one.declarator, one.ty);

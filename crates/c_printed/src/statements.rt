@@ -32,7 +32,8 @@ fn initialiser(out: &mut Found, one: &TypedInitialiser)
 
 #[cycle(initialisers)]
 fn items(out: &mut Found, all: &[TypedItem])
-    ensures { Prints (made_by_items (added typed.NoItem (map typed_item_view all.now))) out.old out.new }
+    ensures { Prints (made_by_items (added typed.NoItem (map typed_item_view all.now))) out.old
+        out.new }
 {
     for one in all {
         item(out, one)
@@ -42,14 +43,17 @@ fn items(out: &mut Found, all: &[TypedItem])
 /// An item behind others.
 #[cycle(initialisers)]
 fn item(out: &mut Found, one: &TypedItem)
-    ensures { (all : typed.TypedItems) (start : Seen) → Prints (made_by_items all) start out.old → Prints (made_by_items (typed_item_view one.now all)) start out.new }
+    ensures { (all : typed.TypedItems) (start : Seen) → Prints (made_by_items all) start out.old
+        → Prints (made_by_items (typed_item_view one.now all)) start out.new }
 {
     initialiser(out, &one.initialiser)
 }
 
 /// A declarator with or without an initialiser, behind others.
 fn init_declarator(out: &mut Found, one: &TypedInitDeclarator)
-    ensures { (all : typed.TypedInitDeclarators) (start : Seen) → Prints (made_by_init_declarators all) start out.old → Prints (made_by_init_declarators (typed_init_declarator_view one.now all)) start out.new }
+    ensures { (all : typed.TypedInitDeclarators) (start : Seen)
+        → Prints (made_by_init_declarators all) start out.old
+        → Prints (made_by_init_declarators (typed_init_declarator_view one.now all)) start out.new }
 {
     match one {
         TypedInitDeclarator::Plain(d) => declarator(out, d),
@@ -61,7 +65,8 @@ fn init_declarator(out: &mut Found, one: &TypedInitDeclarator)
 }
 
 fn init_declarators(out: &mut Found, all: &[TypedInitDeclarator])
-    ensures { Prints (made_by_init_declarators (added typed.NoInitDeclarator (map typed_init_declarator_view all.now))) out.old out.new }
+    ensures { Prints (made_by_init_declarators (added typed.NoInitDeclarator
+        (map typed_init_declarator_view all.now))) out.old out.new }
 {
     for one in all {
         init_declarator(out, one)
@@ -147,7 +152,9 @@ fn block(out: &mut Found, all: &[TypedBlockItem])
 /// An item of a block behind others.
 #[cycle(statements)]
 fn block_item(out: &mut Found, one: &TypedBlockItem)
-    ensures { (all : typed.TypedBlockItems) (start : Seen) → Prints (made_by_block_items all) start out.old → Prints (made_by_block_items (typed_block_item_view one.now all)) start out.new }
+    ensures { (all : typed.TypedBlockItems) (start : Seen)
+        → Prints (made_by_block_items all) start out.old
+        → Prints (made_by_block_items (typed_block_item_view one.now all)) start out.new }
 {
     match one {
         TypedBlockItem::Statement(s) => statement(out, s),
@@ -159,7 +166,9 @@ fn block_item(out: &mut Found, one: &TypedBlockItem)
 
 /// A declaration or a function, behind what comes before it.
 fn external(out: &mut Found, one: &TypedExternal)
-    ensures { (all : typed.TypedTranslationUnit) (start : Seen) → Prints (made_by_unit all) start out.old → Prints (made_by_unit (typed_external_view one.now all)) start out.new }
+    ensures { (all : typed.TypedTranslationUnit) (start : Seen)
+        → Prints (made_by_unit all) start out.old
+        → Prints (made_by_unit (typed_external_view one.now all)) start out.new }
 {
     match one {
         TypedExternal::Declaration(d) => declaration(out, d),
@@ -172,7 +181,8 @@ fn external(out: &mut Found, one: &TypedExternal)
 }
 
 fn externals(out: &mut Found, all: &[TypedExternal])
-    ensures { Prints (made_by_unit (added typed.NoExternal (map typed_external_view all.now))) out.old out.new }
+    ensures { Prints (made_by_unit (added typed.NoExternal (map typed_external_view all.now)))
+        out.old out.new }
 {
     for one in all {
         external(out, one)

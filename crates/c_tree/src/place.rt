@@ -64,7 +64,8 @@ impl Declarator {
     /// The name that it declares.
     #[tactic(auto, using(crate::proofs::ViewLaws::expr_views))]
     pub fn name(&self) -> Option<&Identifier>
-        ensures { option_map (λ name. name.now.bytes) result ≡ declared_name (declarator_view self.now) }
+        ensures { option_map (λ name. name.now.bytes) result
+            ≡ declared_name (declarator_view self.now) }
     {
         match &self.core {
             Core::Names(name) => Some(name),

@@ -13,10 +13,15 @@ ghost use Rattle.c_type_order.specs.Theorems.{SpecifiersUseTypesInOrder, FormsUs
 
 /// What a type name, specifiers, members and enumerators use.
 pub fn types_of_specifiers_are_used_in_order()
-    ensures type_name { (name : tree.TypeName) (t : TypedTypeName) (s r : State) → IsKnown s → judge_type_name name s ≡ Gives t r → IsUsed (λ T. used_by_type_name T t) s.table r.table }
+    ensures type_name { (name : tree.TypeName) (t : TypedTypeName) (s r : State) → IsKnown s
+        → judge_type_name name s ≡ Gives t r → IsUsed (λ T. used_by_type_name T t) s.table r.table }
     ensures specifiers { SpecifiersUseTypesInOrder }
-    ensures members { (all : tree.Members) (rows : TypedMembers) (s r : State) → IsKnown s → judge_members all s ≡ Gives rows r → IsUsed (λ T. used_by_members T rows) s.table r.table }
-    ensures enumerators { (all : tree.Enumerators) (list : TypedEnumerators) (s r : State) → IsKnown s → judge_enumerators all s ≡ Gives list r → IsUsed (λ T. used_by_enumerators T list) s.table r.table }
+    ensures members { (all : tree.Members) (rows : TypedMembers) (s r : State) → IsKnown s
+        → judge_members all s ≡ Gives rows r
+        → IsUsed (λ T. used_by_members T rows) s.table r.table }
+    ensures enumerators { (all : tree.Enumerators) (list : TypedEnumerators) (s r : State)
+        → IsKnown s → judge_enumerators all s ≡ Gives list r
+        → IsUsed (λ T. used_by_enumerators T list) s.table r.table }
 {}
 
 /// What the inside of a declarator uses, what a declarator with the types that it makes uses, and what a function's parameters use.

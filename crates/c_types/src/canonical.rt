@@ -28,7 +28,8 @@ fn firsts_of(
     list: &[TypeId],
 ) -> Result<Vec<TypeId>, NoMemory>
     requires { All (λ t. t.0 < length entries.now.entries) list.now }
-    ensures { IfOk result (λ firsts. firsts.items ≡ map (first_at (firsts_of entries.now.entries)) list.now) }
+    ensures { IfOk result (λ firsts. firsts.items
+        ≡ map (first_at (firsts_of entries.now.entries)) list.now) }
 {
     let mut firsts = Vec::with_capacity(alloc, list.len())?;
     'types: for t in list {
@@ -44,7 +45,8 @@ pub(crate) fn canonical(
     shape: &TypeShape,
 ) -> Result<TypeShape, NoMemory>
     requires { All (λ t. t.0 < length entries.now.entries) (named_by shape.now) }
-    ensures { IfOk result (λ found. found ≡ canonical (first_at (firsts_of entries.now.entries)) shape.now) }
+    ensures { IfOk result (λ found. found ≡ canonical
+        (first_at (firsts_of entries.now.entries)) shape.now) }
 {
     match shape {
         TypeShape::Void => Ok(TypeShape::Void),
@@ -71,7 +73,8 @@ pub(crate) fn first_with(
     shape: TypeShape,
     t: TypeId,
 ) -> Result<TypeId, NoMemory>
-    ensures found { IfOk result (λ first. IsFound known.old.entries known.new.entries shape t first) }
+    ensures found { IfOk result (λ first. IsFound known.old.entries known.new.entries shape t
+        first) }
     ensures unchanged { OnErr result (known.new.entries ≡ known.old.entries) }
 {
     if let Some(first) = known.get(&shape) {

@@ -101,13 +101,19 @@ impl Types {
     /// `TooLarge(Object)` where the type would have more than 1,048,576 bytes.
     pub fn add(&mut self, shape: TypeShape) -> Result<TypeId, TypeFault>
         requires { IsAddable self.old shape }
-        ensures known { (t : TypeId) → HasShape self.old t shape → (result ≡ Ok t) × (self.new ≡ self.old) }
-        ensures added { IsNew self.old shape → IfOk result (λ t. (t.0 ≡ length self.old) × (self.new ≡ self.old ++ (basic_entry shape ∷ []))) }
-        ensures types { (result ≡ Err (TooLarge limit_types)) ↔ (IsNew self.old shape × (16384 < length self.old + 1)) }
-        ensures object { (result ≡ Err (TooLarge limit_object)) ↔ (IsNew self.old shape × (length self.old + 1 ≤ 16384) × (1048576 < (new_layout self.old shape).size)) }
+        ensures known { (t : TypeId) → HasShape self.old t shape → (result ≡ Ok t)
+            × (self.new ≡ self.old) }
+        ensures added { IsNew self.old shape → IfOk result (λ t. (t.0 ≡ length self.old)
+            × (self.new ≡ self.old ++ (basic_entry shape ∷ []))) }
+        ensures types { (result ≡ Err (TooLarge limit_types)) ↔
+            (IsNew self.old shape × (16384 < length self.old + 1)) }
+        ensures object { (result ≡ Err (TooLarge limit_object)) ↔
+            (IsNew self.old shape × (length self.old + 1 ≤ 16384)
+            × (1048576 < (new_layout self.old shape).size)) }
         ensures refused { IfErr result IsTypeFault }
         ensures unchanged { OnErr result (self.new ≡ self.old) }
-        ensures others { (t : TypeId) → IsType self.old t → layout_of self.new t ≡ layout_of self.old t }
+        ensures others { (t : TypeId) → IsType self.old t → layout_of self.new t
+            ≡ layout_of self.old t }
     {
         if let Some(t) = self.find(&shape) {
             return Ok(t);
@@ -123,7 +129,8 @@ impl Types {
 
     /// The number of the type with a shape, if it is there.
     fn find(&self, shape: &TypeShape) -> Option<TypeId>
-        ensures there { MatchOption result (IsNew self.now shape.now) (λ t. HasShape self.now t shape.now) }
+        ensures there { MatchOption result (IsNew self.now shape.now)
+            (λ t. HasShape self.now t shape.now) }
         ensures unique { IfSome result (λ t. (u : TypeId) → HasShape self.now u shape.now → t ≡ u) }
     {
         match self.entries.get_index_of(shape) {
@@ -135,7 +142,8 @@ impl Types {
     /// The layout of a shape that has no members, unless it has too many bytes.
     fn new_layout(&self, shape: &TypeShape) -> Option<Layout>
         requires { IsAddable self.now shape.now }
-        ensures { SomeIff result ((new_layout self.now shape.now).size ≤ 1048576) (new_layout self.now shape.now) }
+        ensures { SomeIff result ((new_layout self.now shape.now).size ≤ 1048576)
+            (new_layout self.now shape.now) }
     {
         match shape {
             TypeShape::Integer { bytes, signed: _ } => Some(Layout::of_bytes(*bytes)),
@@ -151,10 +159,13 @@ impl Types {
     pub fn define(&mut self, t: TypeId, members: Vec<TypeId>) -> Result<(), TypeFault>
         requires { IsDefinable self.old t members.items }
         ensures defined { OnOk result (self.new ≡ with_members self.old t members.items) }
-        ensures object { (result ≡ Err (TooLarge limit_object)) ↔ (1048576 < (defined_layout self.old t members.items).size) }
-        ensures refused { IfErr result (λ fault. (fault ≡ TooLarge limit_object) ⊎ (fault ≡ no_memory)) }
+        ensures object { (result ≡ Err (TooLarge limit_object)) ↔
+            (1048576 < (defined_layout self.old t members.items).size) }
+        ensures refused { IfErr result (λ fault. (fault ≡ TooLarge limit_object)
+            ⊎ (fault ≡ no_memory)) }
         ensures unchanged { OnErr result (self.new ≡ self.old) }
-        ensures others { (u : TypeId) → IsComplete self.old u → layout_of self.new u ≡ layout_of self.old u }
+        ensures others { (u : TypeId) → IsComplete self.old u → layout_of self.new u
+            ≡ layout_of self.old u }
     {
         let Some(layout) = self.defined_layout(t, &members) else {
             return Err(TypeFault::TooLarge(Limit::Object));
@@ -176,7 +187,8 @@ impl Types {
         requires typed { IsType self.now t }
         requires aggregate { IsAggregate self.now t }
         requires complete { All (IsComplete self.now) members.now }
-        ensures { SomeIff result ((defined_layout self.now t members.now).size ≤ 1048576) (defined_layout self.now t members.now) }
+        ensures { SomeIff result ((defined_layout self.now t members.now).size ≤ 1048576)
+            (defined_layout self.now t members.now) }
     {
         match self.shape(t) {
             TypeShape::Struct(_) => self.struct_layout(members),
@@ -187,7 +199,8 @@ impl Types {
     /// The layout of a struct with these members, unless it has too many bytes.
     fn struct_layout(&self, members: &[TypeId]) -> Option<Layout>
         requires { All (IsComplete self.now) members.now }
-        ensures { SomeIff result ((struct_layout (map (layout_of self.now) members.now)).size ≤ 1048576) (struct_layout (map (layout_of self.now) members.now)) }
+        ensures { SomeIff result ((struct_layout (map (layout_of self.now) members.now)).size ≤
+            1048576) (struct_layout (map (layout_of self.now) members.now)) }
     {
         let mut end = 0;
         let mut align = 1;
@@ -205,7 +218,8 @@ impl Types {
     /// The layout of a union with these members, unless it has too many bytes.
     fn union_layout(&self, members: &[TypeId]) -> Option<Layout>
         requires { All (IsComplete self.now) members.now }
-        ensures { SomeIff result ((union_layout (map (layout_of self.now) members.now)).size ≤ 1048576) (union_layout (map (layout_of self.now) members.now)) }
+        ensures { SomeIff result ((union_layout (map (layout_of self.now) members.now)).size ≤
+            1048576) (union_layout (map (layout_of self.now) members.now)) }
     {
         let mut size = 0;
         let mut align = 1;
@@ -223,7 +237,8 @@ impl Types {
         requires aggregate { IsAggregate self.now t }
         requires complete { All (IsComplete self.now) members.now }
         requires small { (defined_layout self.now t members.now).size ≤ 1048576 }
-        ensures { IfOk result (λ fields. ArePlaces (layout_of self.now) (shape_at self.now t) members.now fields.items) }
+        ensures { IfOk result (λ fields. ArePlaces (layout_of self.now)
+            (shape_at self.now t) members.now fields.items) }
     {
         match self.shape(t) {
             TypeShape::Struct(_) => self.struct_places(members),
@@ -235,7 +250,8 @@ impl Types {
     fn struct_places(&self, members: &[TypeId]) -> Result<Vec<FieldPlace>, NoMemory>
         requires complete { All (IsComplete self.now) members.now }
         requires small { members_end (map (layout_of self.now) members.now) ≤ 1048576 }
-        ensures { IfOk result (λ fields. ArePlaces (layout_of self.now) (Struct 0) members.now fields.items) }
+        ensures { IfOk result (λ fields. ArePlaces (layout_of self.now)
+            (Struct 0) members.now fields.items) }
     {
         let mut fields = Vec::with_capacity(self.alloc, members.len())?;
         let mut end = 0;
@@ -250,7 +266,8 @@ impl Types {
 
     /// The places of the members of a union, all at its start.
     fn union_places(&self, members: &[TypeId]) -> Result<Vec<FieldPlace>, NoMemory>
-        ensures { IfOk result (λ fields. ArePlaces (layout_of self.now) (Union 0) members.now fields.items) }
+        ensures { IfOk result (λ fields. ArePlaces (layout_of self.now)
+            (Union 0) members.now fields.items) }
     {
         let mut fields = Vec::with_capacity(self.alloc, members.len())?;
         'members: for m in members {
@@ -263,7 +280,8 @@ impl Types {
     fn new_pointers(&self, shape: &TypeShape) -> u64
         requires addable { IsAddable self.now shape.now }
         requires small { (new_layout self.now shape.now).size ≤ 1048576 }
-        ensures { result ≡ pointers_of_shape (size_of self.now) (pointers_in self.now) shape.now [] }
+        ensures { result ≡ pointers_of_shape (size_of self.now)
+            (pointers_in self.now) shape.now [] }
     {
         match shape {
             TypeShape::Pointer(_, _) => 1,
@@ -278,7 +296,8 @@ impl Types {
         requires aggregate { IsAggregate self.now t }
         requires complete { All (IsComplete self.now) members.now }
         requires small { (defined_layout self.now t members.now).size ≤ 1048576 }
-        ensures { result ≡ pointers_of_shape (size_of self.now) (pointers_in self.now) (shape_at self.now t) members.now }
+        ensures { result ≡ pointers_of_shape (size_of self.now) (pointers_in self.now)
+            (shape_at self.now t) members.now }
     {
         let _ = &self.alloc;
         match self.shape(t) {
@@ -338,7 +357,8 @@ impl Types {
         ensures number { IfOk result (λ t. t.0 ≡ length self.old) }
         ensures added { OnOk result (self.new ≡ self.old ++ (basic_entry shape ∷ [])) }
         ensures unchanged { OnErr result (self.new ≡ self.old) }
-        ensures others { (t : TypeId) → IsType self.old t → layout_of self.new t ≡ layout_of self.old t }
+        ensures others { (t : TypeId) → IsType self.old t → layout_of self.new t
+            ≡ layout_of self.old t }
     {
         let t = TypeId(self.entries.len() as u32);
         let pointers = self.new_pointers(&shape);
@@ -360,7 +380,8 @@ impl Types {
         requires fresh { IsNew self.old (Integer bytes signed) }
         requires room { length self.old < 16384 }
         requires bytes { IsIntegerSize bytes }
-        ensures added { OnOk result (self.new ≡ self.old ++ (basic_entry (Integer bytes signed) ∷ [])) }
+        ensures added { OnOk result (self.new ≡ self.old ++
+            (basic_entry (Integer bytes signed) ∷ [])) }
     {
         let shape = TypeShape::Integer { bytes, signed };
         self.insert(shape, Layout::of_bytes(bytes))
@@ -464,7 +485,8 @@ impl Types {
 
 /// The layout of an array of `count` elements, unless it has too many bytes (C99 6.2.5).
 fn array_layout(element: Layout, count: u64) -> Option<Layout>
-    ensures { SomeIff result (count * element.size ≤ 1048576) (record { size = count * element.size; align = element.align }) }
+    ensures { SomeIff result (count * element.size ≤ 1048576)
+        (record { size = count * element.size; align = element.align }) }
 {
     bounded(count.checked_mul(element.size)?, element.align)
 }

@@ -64,7 +64,9 @@ pub fn cannot_divide(operator: Binary, kind: Kind, x: i128, y: i128) -> bool
 /// The value of an operator on two values, where there is one.
 fn checked(operator: Binary, kind: Kind, x: i128, y: i128) -> Option<i128>
     requires { IsIntegerSize kind.bytes }
-    ensures { result ≡ if constants.cannot_divide (operator_of operator) (kind_view kind) x y then None else Some (arithmetic.computed (operator_of operator) (kind_view kind) x y) }
+    ensures { result ≡ if constants.cannot_divide (operator_of operator)
+        (kind_view kind) x y then None else Some
+        (arithmetic.computed (operator_of operator) (kind_view kind) x y) }
 {
     if cannot_divide(operator, kind, x, y) {
         return None;
@@ -114,7 +116,8 @@ fn converted_value(types: &Types, which: Conversion, t: TypeId, x: Option<i128>)
 }
 
 fn alone_value(types: &Types, operator: Unary, t: TypeId, x: Option<i128>) -> Option<i128>
-    ensures { result ≡ constants.with_type (integer_at types.now t) (λ k. constants.with_value x (λ z. Some (constants.alone operator k z))) }
+    ensures { result ≡ constants.with_type (integer_at types.now t)
+        (λ k. constants.with_value x (λ z. Some (constants.alone operator k z))) }
 {
     let kind = integer_at(types, t)?;
     Some(alone(operator, kind, x?))
@@ -123,7 +126,10 @@ fn alone_value(types: &Types, operator: Unary, t: TypeId, x: Option<i128>) -> Op
 /// The value of an operator on two values that may be there.
 fn checked_values(operator: Binary, kind: Kind, x: Option<i128>, y: Option<i128>) -> Option<i128>
     requires { IsIntegerSize kind.bytes }
-    ensures { result ≡ constants.with_value x (λ a. constants.with_value y (λ b. if constants.cannot_divide (operator_of operator) (kind_view kind) a b then None else Some (arithmetic.computed (operator_of operator) (kind_view kind) a b))) }
+    ensures { result ≡ constants.with_value x (λ a. constants.with_value y
+        (λ b. if constants.cannot_divide (operator_of operator)
+        (kind_view kind) a b then None else Some
+        (arithmetic.computed (operator_of operator) (kind_view kind) a b))) }
 {
     match (x, y) {
         (Some(x), Some(y)) => checked(operator, kind, x, y),
@@ -138,7 +144,10 @@ fn computed_value(
     x: Option<i128>,
     y: Option<i128>,
 ) -> Option<i128>
-    ensures { result ≡ constants.with_type (integer_at types.now t) (λ k. constants.with_value x (λ a. constants.with_value y (λ b. if constants.cannot_divide (operator_of operator) k a b then None else Some (arithmetic.computed (operator_of operator) k a b)))) }
+    ensures { result ≡ constants.with_type (integer_at types.now t)
+        (λ k. constants.with_value x (λ a. constants.with_value y
+        (λ b. if constants.cannot_divide (operator_of operator) k a b then None else Some
+        (arithmetic.computed (operator_of operator) k a b)))) }
 {
     match integer_at(types, t) {
         Some(kind) => checked_values(operator, kind, x, y),
@@ -147,13 +156,15 @@ fn computed_value(
 }
 
 fn logical_value(operator: Binary, x: Option<i128>, y: Option<i128>) -> Option<i128>
-    ensures { result ≡ constants.with_value x (λ a. constants.with_value y (λ b. Some (constants.logical operator a b))) }
+    ensures { result ≡ constants.with_value x (λ a. constants.with_value y
+        (λ b. Some (constants.logical operator a b))) }
 {
     Some(logical(operator, x?, y?))
 }
 
 fn chosen_value(condition: Option<i128>, x: Option<i128>, y: Option<i128>) -> Option<i128>
-    ensures { result ≡ constants.with_value condition (λ c. constants.with_value x (λ a. constants.with_value y (λ b. Some (if constants.is_true c then a else b)))) }
+    ensures { result ≡ constants.with_value condition (λ c. constants.with_value x
+        (λ a. constants.with_value y (λ b. Some (if constants.is_true c then a else b)))) }
 {
     let condition = condition?;
     let x = x?;

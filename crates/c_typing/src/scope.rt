@@ -90,7 +90,8 @@ impl Scope {
 
     /// A scope that was taken away goes on as the innermost one.
     pub fn go_on(&mut self, level: Level) -> Result<(), NoMemory>
-        ensures entered { OnOk result (self.new ≡ with_scopes self.old (record self.old.scopes { levels = self.old.scopes.levels ++ level ∷ [] })) }
+        ensures entered { OnOk result (self.new ≡ with_scopes self.old
+            (record self.old.scopes { levels = self.old.scopes.levels ++ level ∷ [] })) }
         ensures unchanged { OnErr result (self.new ≡ self.old) }
     {
         self.inner.push(level)?;
@@ -117,7 +118,8 @@ impl Scope {
     /// Declares a name in the innermost scope, which does not declare it.
     pub fn declare(&mut self, name: &[u8], what: Declared) -> Result<(), NoMemory>
         requires { here self.old.scopes.levels name.now ≡ None }
-        ensures declared { OnOk result (self.new ≡ with_scopes self.old (declaring name.now what self.old.scopes)) }
+        ensures declared { OnOk result (self.new ≡ with_scopes self.old
+            (declaring name.now what self.old.scopes)) }
         ensures unchanged { OnErr result (self.new ≡ self.old) }
     {
         let count = self.inner.len();
@@ -168,7 +170,8 @@ impl Scope {
     /// Declares a tag in the innermost scope, which does not declare it.
     pub fn declare_tag(&mut self, name: &[u8], what: Tag) -> Result<(), NoMemory>
         requires { tag_here self.old.scopes.levels name.now ≡ None }
-        ensures declared { OnOk result (self.new ≡ with_scopes self.old (declaring_tag name.now what self.old.scopes)) }
+        ensures declared { OnOk result (self.new ≡ with_scopes self.old
+            (declaring_tag name.now what self.old.scopes)) }
         ensures unchanged { OnErr result (self.new ≡ self.old) }
     {
         self.set_tag(name, what)
@@ -176,7 +179,8 @@ impl Scope {
 
     /// Declares a tag in the innermost scope as this, whatever it was before. It keeps its place among the others.
     pub fn set_tag(&mut self, name: &[u8], what: Tag) -> Result<(), NoMemory>
-        ensures declared { OnOk result (self.new ≡ with_scopes self.old (setting_tag name.now what self.old.scopes)) }
+        ensures declared { OnOk result (self.new ≡ with_scopes self.old
+            (setting_tag name.now what self.old.scopes)) }
         ensures unchanged { OnErr result (self.new ≡ self.old) }
     {
         let count = self.inner.len();
@@ -203,7 +207,8 @@ impl Scope {
     /// Gives a new struct or union its number. It has no members so far.
     pub fn new_aggregate(&mut self) -> Result<usize, NoMemory>
         ensures number { IfOk result (λ number. number ≡ length self.old.scopes.members) }
-        ensures counted { OnOk result (self.new ≡ with_scopes self.old (counting_aggregate self.old.scopes)) }
+        ensures counted { OnOk result (self.new ≡ with_scopes self.old
+            (counting_aggregate self.old.scopes)) }
         ensures unchanged { OnErr result (self.new ≡ self.old) }
     {
         let number = self.members.len();
@@ -213,7 +218,8 @@ impl Scope {
 
     /// Gives a struct or union the names of its members. Takes no memory.
     pub fn set_members(&mut self, number: usize, names: MemberNames)
-        ensures { self.new ≡ with_scopes self.old (record self.old.scopes { members = slice_set self.old.scopes.members number names }) }
+        ensures { self.new ≡ with_scopes self.old (record self.old.scopes
+            { members = slice_set self.old.scopes.members number names }) }
     {
         if number < self.members.len() {
             self.members[number] = names;
@@ -247,7 +253,9 @@ impl Scope {
 
     /// The next node, which is then used up. None comes where 32 bits can number no more. Takes no memory.
     pub fn new_node(&mut self) -> Option<NodeId>
-        ensures given { IfSome result (λ n. (n ≡ record { 0 = self.old.node }) × (self.old.node < 4294967295) × (self.new ≡ record self.old { node = self.old.node + 1 })) }
+        ensures given { IfSome result (λ n. (n ≡ record { 0 = self.old.node })
+            × (self.old.node < 4294967295)
+            × (self.new ≡ record self.old { node = self.old.node + 1 })) }
         ensures none { result ≡ None → (4294967295 ≤ self.old.node) × (self.new ≡ self.old) }
     {
         if self.next_node == u32::MAX {
@@ -269,7 +277,8 @@ impl Scope {
     /// is. Takes no memory.
     pub fn add_global(&mut self, bytes: u64) -> bool
         ensures fits { result ≡ nat_le (self.old.globals + (bytes + 16)) 4194304 }
-        ensures counted { result ≡ true → self.new ≡ record self.old { globals = self.old.globals + (bytes + 16) } }
+        ensures counted { result ≡ true → self.new ≡ record self.old
+            { globals = self.old.globals + (bytes + 16) } }
         ensures unchanged { result ≡ false → self.new ≡ self.old }
     {
         if bytes > MOST_GLOBALS - 16 || self.globals > MOST_GLOBALS - 16 - bytes {
@@ -282,7 +291,8 @@ impl Scope {
     /// Counts pointers that the assignment of a struct moves. False comes exactly where the limit would be passed. Takes no memory.
     pub fn add_cells(&mut self, count: u64) -> bool
         ensures fits { result ≡ nat_le (self.old.cells + count) 65536 }
-        ensures counted { result ≡ true → self.new ≡ record self.old { cells = self.old.cells + count } }
+        ensures counted { result ≡ true → self.new ≡ record self.old
+            { cells = self.old.cells + count } }
         ensures unchanged { result ≡ false → self.new ≡ self.old }
     {
         if count > MOST_CELLS || self.cells > MOST_CELLS - count {

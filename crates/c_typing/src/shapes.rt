@@ -89,7 +89,8 @@ pub fn is_complete_at(scope: &Scope, types: &Types, t: TypeId) -> bool
 
 /// A pointer to what is not complete at this point of the text.
 pub fn points_to_incomplete(scope: &Scope, types: &Types, shape: Option<&TypeShape>) -> bool
-    ensures { result ≡ tests.points_to_incomplete types.now scope.now.scopes (shape_or_void (option_copied shape.entry)) }
+    ensures { result ≡ tests.points_to_incomplete types.now scope.now.scopes
+        (shape_or_void (option_copied shape.entry)) }
 {
     match shape {
         Some(TypeShape::Pointer(_, to)) => !is_complete_at(scope, types, *to),
@@ -99,7 +100,8 @@ pub fn points_to_incomplete(scope: &Scope, types: &Types, shape: Option<&TypeSha
 
 /// A pointer to a function.
 fn points_to_function(types: &Types, shape: Option<&TypeShape>) -> bool
-    ensures { result ≡ tests.points_to_function types.now (shape_or_void (option_copied shape.entry)) }
+    ensures { result ≡ tests.points_to_function types.now
+        (shape_or_void (option_copied shape.entry)) }
 {
     match shape {
         Some(TypeShape::Pointer(_, to)) => is_function(shape_at(types, *to)),
@@ -109,21 +111,24 @@ fn points_to_function(types: &Types, shape: Option<&TypeShape>) -> bool
 
 /// A pointer to `void`, or to a struct or union whose members are not known.
 pub fn points_to_open(scope: &Scope, types: &Types, shape: Option<&TypeShape>) -> bool
-    ensures { result ≡ tests.points_to_open types.now scope.now.scopes (shape_or_void (option_copied shape.entry)) }
+    ensures { result ≡ tests.points_to_open types.now scope.now.scopes
+        (shape_or_void (option_copied shape.entry)) }
 {
     points_to_incomplete(scope, types, shape) && !points_to_function(types, shape)
 }
 
 /// A pointer and an integer, on either side.
 pub fn is_index_pair(a: Option<&TypeShape>, b: Option<&TypeShape>) -> bool
-    ensures { result ≡ tests.is_index_pair (shape_or_void (option_copied a.entry)) (shape_or_void (option_copied b.entry)) }
+    ensures { result ≡ tests.is_index_pair (shape_or_void (option_copied a.entry))
+        (shape_or_void (option_copied b.entry)) }
 {
     (is_pointer(a) && is_integer(b)) || (is_integer(a) && is_pointer(b))
 }
 
 /// Whether both are integer types.
 pub fn are_integers(a: Option<&TypeShape>, b: Option<&TypeShape>) -> bool
-    ensures { result ≡ tests.are_integers (shape_or_void (option_copied a.entry)) (shape_or_void (option_copied b.entry)) }
+    ensures { result ≡ tests.are_integers (shape_or_void (option_copied a.entry))
+        (shape_or_void (option_copied b.entry)) }
 {
     is_integer(a) && is_integer(b)
 }
@@ -147,7 +152,8 @@ pub fn point_to_data(types: &Types, shape: Option<&TypeShape>) -> bool
 
 /// What is before a `->` points to what has this shape.
 pub fn pointed_shape<'t>(types: &'t Types, shape: Option<&TypeShape>) -> Option<&'t TypeShape>
-    ensures { shape_or_void (option_copied result) ≡ tests.pointed_shape types.now (shape_or_void (option_copied shape.entry)) }
+    ensures { shape_or_void (option_copied result) ≡ tests.pointed_shape types.now
+        (shape_or_void (option_copied shape.entry)) }
 {
     match shape {
         Some(TypeShape::Pointer(_, to)) => shape_at(types, *to),

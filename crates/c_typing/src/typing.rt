@@ -27,7 +27,8 @@ pub fn type_with(
     shape: TypeShape,
 ) -> Result<TypeId, Fault>
     requires { IsAddable types.old shape }
-    ensures { Answers (λ t. t) (judging.type_with at shape (known types.old scope.now)) result (known types.new scope.now) }
+    ensures { Answers (λ t. t) (judging.type_with at shape (known types.old scope.now)) result
+        (known types.new scope.now) }
 {
     match types.add(shape) {
         Ok(t) => Ok(t),
@@ -45,7 +46,8 @@ pub fn pointer_type(
     node: NodeId,
     to: TypeId,
 ) -> Result<TypeId, Fault>
-    ensures { Answers (λ t. t) (judging.pointer_type at node to (known types.old scope.now)) result (known types.new scope.now) }
+    ensures { Answers (λ t. t) (judging.pointer_type at node to (known types.old scope.now)) result
+        (known types.new scope.now) }
 {
     if to.0 >= types.count() {
         return Err(no_room(at));
@@ -61,7 +63,8 @@ pub fn new_pointer(
     at: Place,
     to: TypeId,
 ) -> Result<Pointing, Fault>
-    ensures { Answers pointing_view (judging.new_pointer at to (known types.old scope.old)) result (known types.new scope.new) }
+    ensures { Answers pointing_view (judging.new_pointer at to (known types.old scope.old)) result
+        (known types.new scope.new) }
 {
     let Some(node) = scope.new_node() else {
         return Err(no_room(at));
@@ -77,7 +80,8 @@ fn made_raw(
     pointing: Pointing,
     e: Boxed<TypedExpr>,
 ) -> Result<Boxed<TypedExpr>, NoMemory>
-    ensures { IfOk result (λ made. typed_expr_view made ≡ operands.made_raw pointing.node pointing.ty (typed_expr_view e)) }
+    ensures { IfOk result (λ made. typed_expr_view made
+        ≡ operands.made_raw pointing.node pointing.ty (typed_expr_view e)) }
 {
     let made = match e.into_inner() {
         TypedExpr::Paren(at, inner) => TypedExpr::Paren(at, made_raw(scope, pointing, inner)?),
@@ -120,7 +124,9 @@ fn place_value(
     at: Place,
     p: Boxed<TypedPlace>,
 ) -> Result<Boxed<TypedExpr>, Fault>
-    ensures { Answers typed_expr_view (operands.place_value at (typed_place_view p) (operands.reading_of (shape_at types.old (place_type (typed_place_view p)))) (known types.old scope.old)) result (known types.new scope.new) }
+    ensures { Answers typed_expr_view (operands.place_value at (typed_place_view p)
+        (operands.reading_of (shape_at types.old (place_type (typed_place_view p))))
+        (known types.old scope.old)) result (known types.new scope.new) }
 {
     let alloc = scope.alloc();
     match reading_at(types, p.get().ty()) {
@@ -143,7 +149,8 @@ pub fn raw_value(
     at: Place,
     e: Boxed<TypedExpr>,
 ) -> Result<Boxed<TypedExpr>, Fault>
-    ensures { Answers typed_expr_view (operands.raw_value at (typed_expr_view e) (known types.old scope.old)) result (known types.new scope.new) }
+    ensures { Answers typed_expr_view (operands.raw_value at (typed_expr_view e)
+        (known types.old scope.old)) result (known types.new scope.new) }
 {
     let made = new_pointer(scope, types, at, TypeId(0))?;
     Ok(made_raw(scope, made, e)?)
@@ -157,7 +164,8 @@ pub fn value_of(
     at: Place,
     part: Part,
 ) -> Result<Boxed<TypedExpr>, Fault>
-    ensures { Answers typed_expr_view (operands.value_of at (part_view part) (known types.old scope.old)) result (known types.new scope.new) }
+    ensures { Answers typed_expr_view (operands.value_of at (part_view part)
+        (known types.old scope.old)) result (known types.new scope.new) }
 {
     match part {
         Part::Place(p) => place_value(scope, types, at, p),
@@ -169,7 +177,8 @@ pub fn value_of(
 /// The value of an operand (C99 6.3.2.1).
 #[tactic(auto, unfolding(crate::specs::Operands::value))]
 pub fn value(scope: &mut Scope, types: &mut Types, x: Operand) -> Result<Value, Fault>
-    ensures { Answers value_view (operands.value (operand_view x) (known types.old scope.old)) result (known types.new scope.new) }
+    ensures { Answers value_view (operands.value (operand_view x) (known types.old scope.old))
+        result (known types.new scope.new) }
 {
     let Operand { part, place, held } = x;
     let expr = value_of(scope, types, place, part)?;

@@ -181,7 +181,8 @@ pub fn least(kind: Kind) -> i128
 /// Whether this is the least value of a signed type, divided by -1.
 fn is_too_large(kind: Kind, x: i128, y: i128) -> bool
     requires { IsIntegerSize kind.bytes }
-    ensures { result ≡ kind.signed && (int_eq x (arithmetic.least (kind_view kind)) && int_eq y (negsuc 0)) }
+    ensures { result ≡ kind.signed && (int_eq x (arithmetic.least (kind_view kind)) && int_eq y
+        (negsuc 0)) }
 {
     if !kind.signed {
         return false;

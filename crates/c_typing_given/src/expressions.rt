@@ -12,7 +12,8 @@ ghost use Rattle.c_typing_given.specs.Theorems.{DroppedValuesAreGiven, Constants
 /// What is well typed of an expression is given, and so is a type name.
 pub fn an_expression_is_given()
     ensures expression { (T : Table) (e : tree.Expr) → IsBasic T → IsLimited T → IsGiven T e }
-    ensures name { (T : Table) (name : tree.TypeName) → IsBasic T → IsLimited T → IsNameGiven T name }
+    ensures name { (T : Table) (name : tree.TypeName) → IsBasic T → IsLimited T
+        → IsNameGiven T name }
 {}
 
 /// A value that is dropped or tested is given without the conversion that is made of it, and an integer constant with its value.

@@ -12,7 +12,9 @@ ghost use Rattle.c_typing_laws.specs.Theorems.{ConvertedValuesAreWellTyped};
 
 /// The value of an expression, its value where it becomes one of a type (C99 6.5.16.1, 6.7.8, 6.8.6.4), and a constant with its value (C99 6.6).
 pub fn a_checked_expression_is_well_typed()
-    ensures value { (e : tree.Expr) (v : TypedExpr) (s r : State) → IsKnown s → checked e s ≡ Gives v r → IsChecked e v s r }
+    ensures value { (e : tree.Expr) (v : TypedExpr) (s r : State) → IsKnown s → checked e s
+        ≡ Gives v r → IsChecked e v s r }
     ensures becomes { ConvertedValuesAreWellTyped }
-    ensures constant { (e : tree.Expr) (c : Constant) (s r : State) → IsKnown s → checked_constant e s ≡ Gives c r → IsConstantJudged e c s r }
+    ensures constant { (e : tree.Expr) (c : Constant) (s r : State) → IsKnown s
+        → checked_constant e s ≡ Gives c r → IsConstantJudged e c s r }
 {}

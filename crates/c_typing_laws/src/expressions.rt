@@ -11,6 +11,7 @@ ghost use Rattle.c_typing_laws.specs.Theorems.{ArgumentsAreJudged};
 
 /// What is judged of an expression and of arguments (C99 6.5).
 pub fn an_expression_is_judged()
-    ensures expression { (called : Bool) (e : tree.Expr) (o : Operand) (s r : State) → IsKnown s → judge called e s ≡ Gives o r → IsJudged e o s.seen.scopes s r }
+    ensures expression { (called : Bool) (e : tree.Expr) (o : Operand) (s r : State) → IsKnown s
+        → judge called e s ≡ Gives o r → IsJudged e o s.seen.scopes s r }
     ensures arguments { ArgumentsAreJudged }
 {}

@@ -10,5 +10,6 @@ ghost use Rattle.c_typing.specs.Walks.{judge};
 
 /// What judging counts is what the expression holds.
 pub fn a_judged_expression_holds_its_values()
-    ensures { (called : Bool) (e : tree.Expr) (o : Operand) (s r : State) → judge called e s ≡ Gives o r → o.held ≡ held e }
+    ensures { (called : Bool) (e : tree.Expr) (o : Operand) (s r : State) → judge called e s
+        ≡ Gives o r → o.held ≡ held e }
 {}

@@ -30,7 +30,9 @@ pub fn a_refused_declarator_breaks_its_first_rule()
 
 /// What is refused of an expression that a unit asks for, of its value where it becomes one of a type, and of a constant (C99 6.6, 6.7.8, 6.8.6.4).
 pub fn a_refused_check_breaks_its_first_rule()
-    ensures value { (e : tree.Expr) (s : State) (p : Place) (t : Rule) (r : State) → IsKnown s → checked e s ≡ Stops (Refused p t) r → IsRefused (λ T. Refuses T false e s.seen.scopes (Refused p t)) s r }
+    ensures value { (e : tree.Expr) (s : State) (p : Place) (t : Rule) (r : State) → IsKnown s
+        → checked e s ≡ Stops (Refused p t) r
+        → IsRefused (λ T. Refuses T false e s.seen.scopes (Refused p t)) s r }
     ensures becomes { RefusedConversionsBreakTheirRule }
     ensures constant { RefusedConstantsBreakTheirRule }
 {}

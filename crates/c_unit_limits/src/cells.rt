@@ -10,5 +10,6 @@ ghost use Rattle.c_unit_typing.specs.UnitJudging.{UnitState, Gives};
 
 /// What judging counts of a unit is what the limit counts.
 pub fn judging_counts_the_pointers_of_the_limit()
-    ensures { (u : tree.TranslationUnit) (whole : TypedTranslationUnit) (r : UnitState) → judged_unit u ≡ Gives whole r → r.seen.cells ≡ pointers_copied r.table whole }
+    ensures { (u : tree.TranslationUnit) (whole : TypedTranslationUnit) (r : UnitState)
+        → judged_unit u ≡ Gives whole r → r.seen.cells ≡ pointers_copied r.table whole }
 {}

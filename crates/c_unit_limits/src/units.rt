@@ -10,5 +10,6 @@ ghost use Rattle.c_unit_typing.specs.UnitJudging.{UnitState, Gives};
 
 /// A unit that is given is within all its limits.
 pub fn a_judged_unit_is_within_its_limits()
-    ensures { (u : tree.TranslationUnit) (whole : TypedTranslationUnit) (r : UnitState) → judged_unit u ≡ Gives whole r → IsWithinLimits r.table whole }
+    ensures { (u : tree.TranslationUnit) (whole : TypedTranslationUnit) (r : UnitState)
+        → judged_unit u ≡ Gives whole r → IsWithinLimits r.table whole }
 {}

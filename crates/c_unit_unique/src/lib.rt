@@ -13,6 +13,8 @@ ghost use Rattle.c_unit_typing.specs.WellTyped.{IsTypable, IsWellTyped};
 /// A unit has one well typed tree: its types, its nodes, its values, its homes and its conversions are those of its text. So the tree that
 /// makes a text well typed is the only one.
 pub fn a_unit_has_one_tree()
-    ensures unit { (T : Table) (u v : TypedTranslationUnit) → IsWellFormed T → IsWellTyped T u → IsWellTyped T v → erased_unit u ≡ erased_unit v → u ≡ v }
-    ensures text { (T : Table) (x : tree.TranslationUnit) → IsWellFormed T → (one other : IsTypable T x) → one.tree ≡ other.tree }
+    ensures unit { (T : Table) (u v : TypedTranslationUnit) → IsWellFormed T → IsWellTyped T u
+        → IsWellTyped T v → erased_unit u ≡ erased_unit v → u ≡ v }
+    ensures text { (T : Table) (x : tree.TranslationUnit) → IsWellFormed T
+        → (one other : IsTypable T x) → one.tree ≡ other.tree }
 {}

@@ -1,3 +1,4 @@
+//! How kinds, checks, rules, limits and faults are spelled in reports.
 #![tactic(auto)]
 
 use super::*;

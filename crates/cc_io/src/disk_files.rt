@@ -92,7 +92,8 @@ fn read_whole<F: Read>(file: &mut F, limit: u64, into: &mut Vec<u8>) -> Result<(
     requires { into.old.items ≡ [] }
     ensures whole { OnOk result (IfSome (F.remaining file.old) (λ bytes. into.new.items ≡ bytes)) }
     ensures within_limit { OnOk result (vec_len into.new ≤ limit) }
-    ensures too_large { IsErrOf result FileFault.TooLarge → IfSome (F.remaining file.old) (λ bytes. limit < length bytes) }
+    ensures too_large { IsErrOf result FileFault.TooLarge
+        → IfSome (F.remaining file.old) (λ bytes. limit < length bytes) }
 {
     let mut piece = [0; PIECE];
     loop {

@@ -66,9 +66,11 @@ impl Files for MemFiles {
 
     fn read_file(&mut self, name: &str, limit: u64, into: &mut Vec<u8>) -> Result<(), FileFault>
         requires { into.old.items ≡ [] }
-        ensures whole { OnOk result (IfSome (file_of self.old.files name.now) (λ bytes. into.new.items ≡ bytes)) }
+        ensures whole { OnOk result (IfSome (file_of self.old.files name.now)
+            (λ bytes. into.new.items ≡ bytes)) }
         ensures within_limit { OnOk result (vec_len into.new ≤ limit) }
-        ensures too_large { IsErrOf result FileFault.TooLarge → IfSome (file_of self.old.files name.now) (λ bytes. limit < length bytes) }
+        ensures too_large { IsErrOf result FileFault.TooLarge → IfSome
+            (file_of self.old.files name.now) (λ bytes. limit < length bytes) }
         ensures emptied { OnErr result (into.new.items ≡ []) }
         ensures failed { IsErrOf result FileFault.Failed → Rose self.old.faults self.new.faults }
         ensures last { self.new.last ≡ last_after result name.now self.old.last }
@@ -78,7 +80,8 @@ impl Files for MemFiles {
         // Where there is memory, it fails at the listed calls and at unknown names alone.
         ensures fails_exactly { result ≢ Err FileFault.NoMemory →
             (IsErrOf result FileFault.Failed ↔
-            (Contains self.old.fails (counted_up self.old.calls) ⊎ IsNone (file_of self.old.files name.now))) }
+            (Contains self.old.fails (counted_up self.old.calls)
+            ⊎ IsNone (file_of self.old.files name.now))) }
 
         ensures call { self.new.calls ≡ counted_up self.old.calls }
         ensures fault { self.new.faults ≡ faults_after result self.old.faults }

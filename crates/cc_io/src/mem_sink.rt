@@ -68,20 +68,24 @@ impl Sink for MemSink {
     ghost faults = { λ s. s.faults };
 
     fn write(&mut self, bytes: &[u8]) -> Result<(), Failed>
-        ensures appended { OnOk result (Gains (Some self.old.written) (Some self.new.written) bytes.now) }
+        ensures appended { OnOk result (Gains (Some self.old.written)
+            (Some self.new.written) bytes.now) }
         ensures failed { OnErr result (Rose self.old.faults self.new.faults) }
-        ensures front { OnErr result (GainsFront (Some self.old.written) (Some self.new.written) bytes.now) }
+        ensures front { OnErr result (GainsFront (Some self.old.written)
+            (Some self.new.written) bytes.now) }
         ensures never_falls { self.old.faults ≤ self.new.faults }
         ensures in_range { self.new.faults ≤ greatest_count }
 
         // It fails at the listed calls and for want of room alone, and then takes nothing.
-        ensures fails_exactly { IsErr result ↔ (Contains self.old.fails (counted_up self.old.calls) ⊎ (self.old.room < length bytes.now)) }
+        ensures fails_exactly { IsErr result ↔ (Contains self.old.fails (counted_up self.old.calls)
+            ⊎ (self.old.room < length bytes.now)) }
         ensures room_taken { OnOk result (self.new.room + length bytes.now ≡ self.old.room) }
         ensures nothing_taken { OnErr result (self.new.written ≡ self.old.written) }
         ensures room_left { OnErr result (self.new.room ≡ self.old.room) }
 
         ensures call { self.new.calls ≡ counted_up self.old.calls }
-        ensures fault { self.new.faults ≡ (if is_ok result then self.old.faults else counted_up self.old.faults) }
+        ensures fault { self.new.faults ≡ (if is_ok result then self.old.faults else counted_up
+            self.old.faults) }
         ensures same_fails { self.new.fails ≡ self.old.fails }
     {
         if self.calls.begin() || self.room < bytes.len() {

@@ -35,7 +35,13 @@ impl MemSource {
     /// that fail, counted from 1.
     pub fn new(bytes: Vec<u8>, most: usize, fails: Vec<u64>) -> MemSource
         requires { 0 < most }
-        ensures { result ≡ record { held = bytes.items; most = most; fails = fails.items; calls = 0; faults = 0 } }
+        ensures { result ≡ record {
+          held = bytes.items;
+          most = most;
+          fails = fails.items;
+          calls = 0;
+          faults = 0;
+        } }
     {
         MemSource {
             pieces: Pieces::new(bytes, most),
@@ -51,8 +57,10 @@ impl Source for MemSource {
 
     fn read(&mut self, into: &mut [u8]) -> Result<usize, Failed>
         ensures within { IfOk result (λ count. count ≤ length into.old) }
-        ensures takes { IfOk result (λ count. Takes (Some self.old.held) (Some self.new.held) (take count into.new)) }
-        ensures end { IfOk result (λ count. count ≡ 0 → 0 < length into.old → IsSpent (Some self.new.held)) }
+        ensures takes { IfOk result (λ count. Takes (Some self.old.held) (Some self.new.held)
+            (take count into.new)) }
+        ensures end { IfOk result (λ count. count ≡ 0 → 0 < length into.old
+            → IsSpent (Some self.new.held)) }
         ensures failed { OnErr result (Rose self.old.faults self.new.faults) }
         ensures untaken { OnErr result (Keeps (Some self.old.held) (Some self.new.held)) }
         ensures never_falls { self.old.faults ≤ self.new.faults }
@@ -60,12 +68,14 @@ impl Source for MemSource {
 
         // It fails at the listed calls and no others, and gives as many bytes as one read may.
         ensures fails_exactly { IsErr result ↔ Contains self.old.fails (counted_up self.old.calls) }
-        ensures amount { IfOk result (λ count. count ≡ min self.old.most (min (length self.old.held) (length into.old))) }
+        ensures amount { IfOk result (λ count. count ≡ min self.old.most
+            (min (length self.old.held) (length into.old))) }
         ensures beyond { IfOk result (λ count. drop count into.new ≡ drop count into.old) }
         ensures unfilled { OnErr result (into.new ≡ into.old) }
 
         ensures call { self.new.calls ≡ counted_up self.old.calls }
-        ensures fault { self.new.faults ≡ (if is_ok result then self.old.faults else counted_up self.old.faults) }
+        ensures fault { self.new.faults ≡ (if is_ok result then self.old.faults else counted_up
+            self.old.faults) }
         ensures same_most { self.new.most ≡ self.old.most }
         ensures same_fails { self.new.fails ≡ self.old.fails }
     {

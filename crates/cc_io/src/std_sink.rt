@@ -38,12 +38,15 @@ impl<W: Write> Sink for StdSink<W> {
     ghost faults = { λ s. s.faults };
 
     fn write(&mut self, bytes: &[u8]) -> Result<(), Failed>
-        ensures appended { OnOk result (Gains (W.contents self.old.inner) (W.contents self.new.inner) bytes.now) }
+        ensures appended { OnOk result (Gains (W.contents self.old.inner)
+            (W.contents self.new.inner) bytes.now) }
         ensures failed { OnErr result (Rose self.old.faults self.new.faults) }
-        ensures front { OnErr result (GainsFront (W.contents self.old.inner) (W.contents self.new.inner) bytes.now) }
+        ensures front { OnErr result (GainsFront (W.contents self.old.inner)
+            (W.contents self.new.inner) bytes.now) }
         ensures never_falls { self.old.faults ≤ self.new.faults }
         ensures in_range { self.new.faults ≤ greatest_count }
-        ensures fault { self.new.faults ≡ (if is_ok result then self.old.faults else counted_up self.old.faults) }
+        ensures fault { self.new.faults ≡ (if is_ok result then self.old.faults else counted_up
+            self.old.faults) }
     {
         let outcome = write_whole(&mut self.output, bytes);
         self.faults = count_after(self.faults, outcome.is_err());
@@ -53,8 +56,10 @@ impl<W: Write> Sink for StdSink<W> {
 
 /// Writes all the bytes. It fails at an error, and where the writer takes nothing of a piece that is not empty.
 fn write_whole<W: Write>(output: &mut W, bytes: &[u8]) -> Result<(), Failed>
-    ensures appended { OnOk result (Gains (W.contents output.old) (W.contents output.new) bytes.now) }
-    ensures front { OnErr result (GainsFront (W.contents output.old) (W.contents output.new) bytes.now) }
+    ensures appended { OnOk result (Gains (W.contents output.old)
+        (W.contents output.new) bytes.now) }
+    ensures front { OnErr result (GainsFront (W.contents output.old)
+        (W.contents output.new) bytes.now) }
 {
     let mut rest = bytes;
     while !rest.is_empty() {

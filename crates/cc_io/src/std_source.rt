@@ -39,13 +39,17 @@ impl<R: Read> Source for StdSource<R> {
 
     fn read(&mut self, into: &mut [u8]) -> Result<usize, Failed>
         ensures within { IfOk result (λ count. count ≤ length into.old) }
-        ensures takes { IfOk result (λ count. Takes (R.remaining self.old.inner) (R.remaining self.new.inner) (take count into.new)) }
-        ensures end { IfOk result (λ count. count ≡ 0 → 0 < length into.old → IsSpent (R.remaining self.new.inner)) }
+        ensures takes { IfOk result (λ count. Takes (R.remaining self.old.inner)
+            (R.remaining self.new.inner) (take count into.new)) }
+        ensures end { IfOk result (λ count. count ≡ 0 → 0 < length into.old
+            → IsSpent (R.remaining self.new.inner)) }
         ensures failed { OnErr result (Rose self.old.faults self.new.faults) }
-        ensures untaken { OnErr result (Keeps (R.remaining self.old.inner) (R.remaining self.new.inner)) }
+        ensures untaken { OnErr result (Keeps (R.remaining self.old.inner)
+            (R.remaining self.new.inner)) }
         ensures never_falls { self.old.faults ≤ self.new.faults }
         ensures in_range { self.new.faults ≤ greatest_count }
-        ensures fault { self.new.faults ≡ (if is_ok result then self.old.faults else counted_up self.old.faults) }
+        ensures fault { self.new.faults ≡ (if is_ok result then self.old.faults else counted_up
+            self.old.faults) }
     {
         let outcome = self.input.read(into);
         self.faults = count_after(self.faults, outcome.is_err());

@@ -44,7 +44,8 @@ impl Files for SureFiles {
         requires { into.old.items ≡ [] }
         ensures whole { OnOk result (into.new.items ≡ sure_file_of self.old.files name.now) }
         ensures within_limit { OnOk result (vec_len into.new ≤ limit) }
-        ensures too_large { IsErrOf result FileFault.TooLarge ↔ (limit < length (sure_file_of self.old.files name.now)) }
+        ensures too_large { IsErrOf result FileFault.TooLarge ↔
+            (limit < length (sure_file_of self.old.files name.now)) }
         ensures emptied { OnErr result (into.new.items ≡ []) }
         ensures failed { IsErrOf result FileFault.Failed → Rose 0 0 }
         ensures last { None ≡ last_after result name.now None }

@@ -42,8 +42,10 @@ impl Source for SureSource {
 
     fn read(&mut self, into: &mut [u8]) -> Result<usize, Failed>
         ensures within { IfOk result (λ count. count ≤ length into.old) }
-        ensures takes { IfOk result (λ count. Takes (Some self.old.held) (Some self.new.held) (take count into.new)) }
-        ensures end { IfOk result (λ count. count ≡ 0 → 0 < length into.old → IsSpent (Some self.new.held)) }
+        ensures takes { IfOk result (λ count. Takes (Some self.old.held) (Some self.new.held)
+            (take count into.new)) }
+        ensures end { IfOk result (λ count. count ≡ 0 → 0 < length into.old
+            → IsSpent (Some self.new.held)) }
         ensures failed { OnErr result (Rose 0 0) }
         ensures untaken { OnErr result (Keeps (Some self.old.held) (Some self.new.held)) }
         ensures never_falls { 0 ≤ 0 }
@@ -51,7 +53,8 @@ impl Source for SureSource {
 
         // It never fails, and gives as many bytes as one read may.
         ensures sure { IsOk result }
-        ensures amount { IfOk result (λ count. count ≡ min self.old.most (min (length self.old.held) (length into.old))) }
+        ensures amount { IfOk result (λ count. count ≡ min self.old.most
+            (min (length self.old.held) (length into.old))) }
         ensures beyond { IfOk result (λ count. drop count into.new ≡ drop count into.old) }
 
         ensures same_most { self.new.most ≡ self.old.most }

@@ -16,8 +16,10 @@ pub trait Source {
     /// Fills the first places of `into` with the next bytes, and answers how many they are.
     fn read(&mut self, into: &mut [u8]) -> Result<usize, Failed>
         ensures within { IfOk result (λ count. count ≤ length into.old) }
-        ensures takes { IfOk result (λ count. Takes (held self.old) (held self.new) (take count into.new)) }
-        ensures end { IfOk result (λ count. count ≡ 0 → 0 < length into.old → IsSpent (held self.new)) }
+        ensures takes { IfOk result (λ count. Takes (held self.old) (held self.new)
+            (take count into.new)) }
+        ensures end { IfOk result (λ count. count ≡ 0 → 0 < length into.old
+            → IsSpent (held self.new)) }
 
         // A failure has a cause that was counted, and takes nothing.
         ensures failed { OnErr result (Rose (faults self.old) (faults self.new)) }
@@ -59,13 +61,16 @@ pub trait Files {
     /// Reads the whole file into `into`, which is empty. A file of more than `limit` bytes is too large.
     fn read_file(&mut self, name: &str, limit: u64, into: &mut Vec<u8>) -> Result<(), FileFault>
         requires { into.old.items ≡ [] }
-        ensures whole { OnOk result (IfSome (holds self.old name.now) (λ bytes. into.new.items ≡ bytes)) }
+        ensures whole { OnOk result (IfSome (holds self.old name.now)
+            (λ bytes. into.new.items ≡ bytes)) }
         ensures within_limit { OnOk result (vec_len into.new ≤ limit) }
-        ensures too_large { IsErrOf result FileFault.TooLarge → IfSome (holds self.old name.now) (λ bytes. limit < length bytes) }
+        ensures too_large { IsErrOf result FileFault.TooLarge
+            → IfSome (holds self.old name.now) (λ bytes. limit < length bytes) }
         ensures emptied { OnErr result (into.new.items ≡ []) }
 
         // A failure has a cause that was counted, and its name is kept.
-        ensures failed { IsErrOf result FileFault.Failed → Rose (faults self.old) (faults self.new) }
+        ensures failed { IsErrOf result FileFault.Failed
+            → Rose (faults self.old) (faults self.new) }
         ensures last { last self.new ≡ last_after result name.now (last self.old) }
         ensures never_falls { faults self.old ≤ faults self.new }
         ensures in_range { faults self.new ≤ greatest_count };

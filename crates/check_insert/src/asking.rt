@@ -35,14 +35,16 @@ pub(crate) fn ask_nothing(out: &mut Draft, k: Work)
 /// The check of one condition.
 #[tactic(auto, using(crate::proofs::Laws::asks_one))]
 pub(crate) fn ask(out: &mut Draft, k: Work, stop: Stop, c: Condition)
-    ensures { Grows (Asks k (asked stop.check stop.place (condition_of c) ∷ [])) (Unit {0}) out.old out.new }
+    ensures { Grows (Asks k (asked stop.check stop.place (condition_of c) ∷ []))
+        (Unit {0}) out.old out.new }
 {
     put_condition(out, k, stop, c)
 }
 
 /// The test of a condition that is asked only where a slot isn't 0.
 fn put_unless(out: &mut Draft, k: Work, stop: Stop, c: Guarded)
-    ensures { Grows (Tests stop (test_of k (Unless c.slot (condition_of c.condition)))) (Unit {0}) out.old out.new }
+    ensures { Grows (Tests stop (test_of k (Unless c.slot (condition_of c.condition))))
+        (Unit {0}) out.old out.new }
 {
     let mut testing = start(out);
     put_condition(&mut testing, k, stop, c.condition);
@@ -53,14 +55,16 @@ fn put_unless(out: &mut Draft, k: Work, stop: Stop, c: Guarded)
 /// The check of a condition that is asked only where a slot isn't 0.
 #[tactic(auto, using(crate::proofs::Laws::asks_one))]
 pub(crate) fn ask_unless(out: &mut Draft, k: Work, stop: Stop, c: Guarded)
-    ensures { Grows (Asks k (asked stop.check stop.place (Unless c.slot (condition_of c.condition)) ∷ [])) (Unit {0}) out.old out.new }
+    ensures { Grows (Asks k (asked stop.check stop.place
+        (Unless c.slot (condition_of c.condition)) ∷ [])) (Unit {0}) out.old out.new }
 {
     put_unless(out, k, stop, c)
 }
 
 /// The check of a condition that is asked only where a pointer of two words or more isn't null.
 pub(crate) fn ask_unless_null(out: &mut Draft, k: Work, stop: Stop, p: PointerSlots, c: Condition)
-    ensures { Grows (Asks k (asked stop.check stop.place (UnlessNull p (condition_of c)) ∷ [])) (Unit {0}) out.old out.new }
+    ensures { Grows (Asks k (asked stop.check stop.place (UnlessNull p (condition_of c)) ∷ []))
+        (Unit {0}) out.old out.new }
 {
     put_lines(out, &[SlotLine::Or(k.x, p.first, p.second)]);
     put_unless(
@@ -83,7 +87,9 @@ pub(crate) fn put_both(
     c: Guarded,
     d: Guarded,
 )
-    ensures { Grows (Tests stop (After (map straight_of lines.now) (Choose k.x Pass (Then (test_of k (Unless c.slot (condition_of c.condition))) (test_of k (Unless d.slot (condition_of d.condition))))))) (Unit {0}) out.old out.new }
+    ensures { Grows (Tests stop (After (map straight_of lines.now)
+        (Choose k.x Pass (Then (test_of k (Unless c.slot (condition_of c.condition)))
+        (test_of k (Unless d.slot (condition_of d.condition))))))) (Unit {0}) out.old out.new }
 {
     put_lines(out, lines);
     let passing = start(out);

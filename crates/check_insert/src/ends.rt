@@ -58,7 +58,8 @@ pub(crate) fn put_end(out: &mut Draft, k: Work, stop: Stop, end: End)
 /// A test behind lines.
 #[tactic(auto, using(crate::proofs::Laws::tests_after))]
 pub(crate) fn put_test(out: &mut Draft, k: Work, stop: Stop, lines: &[SlotLine], end: End)
-    ensures { Grows (Tests stop (After (map straight_of lines.now) (end_test k end))) (Unit {0}) out.old out.new }
+    ensures { Grows (Tests stop (After (map straight_of lines.now) (end_test k end)))
+        (Unit {0}) out.old out.new }
 {
     put_lines(out, lines);
     put_end(out, k, stop, end)
@@ -67,7 +68,9 @@ pub(crate) fn put_test(out: &mut Draft, k: Work, stop: Stop, lines: &[SlotLine],
 /// A test that lines behind it are for, only where the first working slot isn't 0: they stop where the second isn't 0.
 #[tactic(auto, using(crate::proofs::Rules::choice_rules))]
 pub(crate) fn put_test_if(out: &mut Draft, k: Work, stop: Stop, first: SlotLine, more: &[SlotLine])
-    ensures { Grows (Tests stop (After (straight_of first ∷ []) (Choose k.x (After (map straight_of more.now) (stop_if k k.y)) Pass))) (Unit {0}) out.old out.new }
+    ensures { Grows (Tests stop (After (straight_of first ∷ [])
+        (Choose k.x (After (map straight_of more.now) (stop_if k k.y)) Pass)))
+        (Unit {0}) out.old out.new }
 {
     put_lines(out, &[first]);
     let mut testing = start(out);
@@ -85,7 +88,9 @@ pub(crate) fn put_test_unless(
     first: SlotLine,
     more: &[SlotLine],
 )
-    ensures { Grows (Tests stop (After (straight_of first ∷ []) (Choose k.x Pass (After (map straight_of more.now) (stop_if k k.y))))) (Unit {0}) out.old out.new }
+    ensures { Grows (Tests stop (After (straight_of first ∷ [])
+        (Choose k.x Pass (After (map straight_of more.now) (stop_if k k.y)))))
+        (Unit {0}) out.old out.new }
 {
     put_lines(out, &[first]);
     let mut testing = start(out);

@@ -16,7 +16,8 @@ use check_forms::{Fixed, PointerSlots, Work};
 
 /// A pointer that was made for an object is in it, or at its end.
 fn put_settled(out: &mut Draft, k: Work, p: Pointer, at: Place)
-    ensures { Grows (Asks k (all_asked check.Same at (settled p.kind p.slots))) (Unit {0}) out.old out.new }
+    ensures { Grows (Asks k (all_asked check.Same at (settled p.kind p.slots)))
+        (Unit {0}) out.old out.new }
 {
     let stop = stop(Check::Same, at);
     let made = p.slots.second;
@@ -40,7 +41,8 @@ fn put_settled(out: &mut Draft, k: Work, p: Pointer, at: Place)
 /// Two SEQ pointers are of one part, or settled.
 #[tactic(auto, using(crate::proofs::Laws::asks_one))]
 fn put_parts(out: &mut Draft, k: Work, p: PointerSlots, q: PointerSlots, at: Place)
-    ensures { Grows (Asks k (all_asked check.Same at (equated Seq Seq p q))) (Unit {0}) out.old out.new }
+    ensures { Grows (Asks k (all_asked check.Same at (equated Seq Seq p q)))
+        (Unit {0}) out.old out.new }
 {
     put_both(
         out,
@@ -59,7 +61,8 @@ fn put_parts(out: &mut Draft, k: Work, p: PointerSlots, q: PointerSlots, at: Pla
 /// Two WILD pointers are of one area, or settled.
 #[tactic(auto, using(crate::proofs::Laws::asks_one))]
 fn put_areas(out: &mut Draft, k: Work, p: PointerSlots, q: PointerSlots, at: Place)
-    ensures { Grows (Asks k (all_asked check.Same at (equated Wild Wild p q))) (Unit {0}) out.old out.new }
+    ensures { Grows (Asks k (all_asked check.Same at (equated Wild Wild p q)))
+        (Unit {0}) out.old out.new }
 {
     put_both(
         out,
@@ -74,7 +77,8 @@ fn put_areas(out: &mut Draft, k: Work, p: PointerSlots, q: PointerSlots, at: Pla
 /// Both are settled.
 #[tactic(auto, using(crate::proofs::Laws::all_asked_append))]
 fn put_both_settled(out: &mut Draft, k: Work, p: Pointer, q: Pointer, at: Place)
-    ensures { Grows (Asks k (all_asked check.Same at (settled p.kind p.slots ++ settled q.kind q.slots))) (Unit {0}) out.old out.new }
+    ensures { Grows (Asks k (all_asked check.Same at (settled p.kind p.slots ++ settled q.kind
+        q.slots))) (Unit {0}) out.old out.new }
 {
     put_settled(out, k, p, at);
     put_settled(out, k, q, at)
@@ -82,7 +86,8 @@ fn put_both_settled(out: &mut Draft, k: Work, p: Pointer, q: Pointer, at: Place)
 
 /// `==` and `!=`.
 pub(crate) fn put_equated(out: &mut Draft, k: Work, p: Pointer, q: Pointer, at: Place)
-    ensures { Grows (Asks k (all_asked check.Same at (equated p.kind q.kind p.slots q.slots))) (Unit {0}) out.old out.new }
+    ensures { Grows (Asks k (all_asked check.Same at (equated p.kind q.kind p.slots q.slots)))
+        (Unit {0}) out.old out.new }
 {
     match p.kind {
         Kind::Safe | Kind::Rtti => put_both_settled(out, k, p, q, at),
@@ -123,7 +128,8 @@ fn put_apart(
     apart: Option<Fixed>,
     at: Place,
 )
-    ensures { Grows (Asks k (all_asked check.Same at (elements_apart p q apart))) (Unit {0}) out.old out.new }
+    ensures { Grows (Asks k (all_asked check.Same at (elements_apart p q apart)))
+        (Unit {0}) out.old out.new }
 {
     match apart {
         None => ask_nothing(out, k),
@@ -148,7 +154,8 @@ pub(crate) fn put_order(
     apart: Option<Fixed>,
     at: Place,
 )
-    ensures { Grows (Asks k (all_asked check.Same at (of_one p.kind q.kind p.slots q.slots ∷ elements_apart p.slots q.slots apart))) (Unit {0}) out.old out.new }
+    ensures { Grows (Asks k (all_asked check.Same at (of_one p.kind q.kind p.slots q.slots ∷
+        elements_apart p.slots q.slots apart))) (Unit {0}) out.old out.new }
 {
     ask(out, k, stop(Check::Same, at), of_one(p, q));
     put_apart(out, k, p.slots, q.slots, apart, at)

@@ -11,7 +11,8 @@ use cured_code::{Code, Instr};
 
 /// Appends an instruction, or remembers that memory was wanted.
 pub fn push(out: &mut Draft, one: Instr)
-    ensures appended { out.new.fine ≡ true → (out.old.fine ≡ true) × (out.new.items.items ≡ out.old.items.items ++ (one ∷ [])) }
+    ensures appended { out.new.fine ≡ true → (out.old.fine ≡ true)
+        × (out.new.items.items ≡ out.old.items.items ++ (one ∷ [])) }
     ensures ready { out.new.ready ≡ out.old.ready }
 {
     if out.items.push(one).is_err() {

@@ -170,7 +170,8 @@ pub(crate) fn put_kept(
     size: Fixed,
     at: Place,
 )
-    ensures { Grows (Asks k (kept_of source.kind source.slots target size at)) (Unit {0}) out.old out.new }
+    ensures { Grows (Asks k (kept_of source.kind source.slots target size at))
+        (Unit {0}) out.old out.new }
 {
     match source.kind {
         Kind::Safe | Kind::Seq | Kind::Rtti => ask_nothing(out, k),
@@ -203,7 +204,8 @@ pub(crate) fn put_member(
     member: Member,
     at: Place,
 )
-    ensures { Grows (Asks k (member_asked p.kind p.slots size member.numbers member.offset member.reach at)) (Unit {0}) out.old out.new }
+    ensures { Grows (Asks k (member_asked p.kind p.slots size member.numbers member.offset
+        member.reach at)) (Unit {0}) out.old out.new }
 {
     match p.kind {
         Kind::Safe | Kind::Seq | Kind::Rtti => put_reached(out, k, p, size, at),
@@ -259,7 +261,8 @@ pub(crate) fn put_call(out: &mut Draft, k: Work, p: Pointer, signature: Fixed, a
 
 /// A pointer is converted.
 pub(crate) fn put_convert(out: &mut Draft, k: Work, p: Pointer, conversion: Conversion, at: Place)
-    ensures { Grows (Asks k (convert_asked p.kind p.slots conversion at)) (Unit {0}) out.old out.new }
+    ensures { Grows (Asks k (convert_asked p.kind p.slots conversion at))
+        (Unit {0}) out.old out.new }
 {
     match conversion {
         Conversion::Free => ask_nothing(out, k),
@@ -282,7 +285,8 @@ pub(crate) fn put_convert(out: &mut Draft, k: Work, p: Pointer, conversion: Conv
 
 /// Bytes that were allocated are enough.
 pub(crate) fn put_allocated(out: &mut Draft, k: Work, kind: Kind, block: Block, at: Place)
-    ensures { Grows (Asks k (allocated kind block.made block.size block.needed at)) (Unit {0}) out.old out.new }
+    ensures { Grows (Asks k (allocated kind block.made block.size block.needed at))
+        (Unit {0}) out.old out.new }
 {
     match kind {
         Kind::Seq | Kind::Wild => ask_nothing(out, k),

@@ -44,7 +44,8 @@ fn program_of(alloc: Global, unit: &Typed) -> Result<Program, NoMemory>
     requires typed { IsWellTyped unit.now.types (typed_unit_view unit.now.unit) }
     requires limited { IsWithinLimits unit.now.types (typed_unit_view unit.now.unit) }
     requires height { unit_height (erased_unit (typed_unit_view unit.now.unit)) ≤ 256 }
-    requires nodes { unit.now.nodes ≡ length (nodes_made (made_by_unit (typed_unit_view unit.now.unit))) }
+    requires nodes { unit.now.nodes ≡ length (nodes_made
+        (made_by_unit (typed_unit_view unit.now.unit))) }
     ensures lowered { IfOk result (λ p. IsLoweredFrom (typed_unit_view unit.now.unit) p) }
     ensures types { IfOk result (λ p. p.types ≡ unit.now.types) }
     ensures nodes { IfOk result (λ p. p.nodes ≡ unit.now.nodes) }
@@ -63,10 +64,14 @@ pub fn lower(alloc: Global, unit: &Typed) -> Result<Cil, NoMemory>
     requires typed { IsWellTyped unit.now.types (typed_unit_view unit.now.unit) }
     requires limited { IsWithinLimits unit.now.types (typed_unit_view unit.now.unit) }
     requires height { unit_height (erased_unit (typed_unit_view unit.now.unit)) ≤ 256 }
-    requires nodes { unit.now.nodes ≡ length (nodes_made (made_by_unit (typed_unit_view unit.now.unit))) }
+    requires nodes { unit.now.nodes ≡ length (nodes_made
+        (made_by_unit (typed_unit_view unit.now.unit))) }
     ensures code { IfOk result (λ cil. IsCodeOfUnit (typed_unit_view unit.now.unit) cil) }
-    ensures means { IfOk result (λ cil. (kind : NodeId → Kind) (input : Input) (turns : ℕ) → code_run cil kind input turns ≡ source_run (typed_unit_view unit.now.unit) unit.now.types kind input turns) }
-    ensures sites { IfOk result (λ cil. cil.sites ≡ sites_of (typed_unit_view unit.now.unit) unit.now.types) }
+    ensures means { IfOk result (λ cil. (kind : NodeId → Kind) (input : Input) (turns : ℕ)
+        → code_run cil kind input turns ≡ source_run
+        (typed_unit_view unit.now.unit) unit.now.types kind input turns) }
+    ensures sites { IfOk result (λ cil. cil.sites
+        ≡ sites_of (typed_unit_view unit.now.unit) unit.now.types) }
     ensures told { IfOk result (λ cil. IsToldOf cil) }
     ensures nodes { IfOk result (λ cil. cil.nodes ≡ unit.now.nodes) }
     ensures types { IfOk result (λ cil. cil.types ≡ unit.now.types) }

@@ -1,3 +1,5 @@
+//! Words of a command line and the commands that they are, worked from the rule for words.
+
 use crate::{Action, Command, WordsFault, command_of};
 use std::alloc::{AllocError, Global};
 use std::test::Fail;

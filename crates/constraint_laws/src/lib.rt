@@ -24,6 +24,9 @@ pub fn constraints_keep_plain_nodes_apart()
 
 /// The constraints don't depend on the order of the sites, nor on how often one is there; and a program's constraints are one set.
 pub fn constraints_are_of_the_sites_alone()
-    ensures sites { (table : Table) (xs ys : List Site) (list : List Constraint) → ((s : Site) → Contains xs s ↔ Contains ys s) → AreGiven table xs list → AreGiven table ys list }
-    ensures one { (table : Table) (sites : List Site) (list other : List Constraint) → AreGiven table sites list → AreGiven table sites other → HaveSameMembers list other }
+    ensures sites { (table : Table) (xs ys : List Site) (list : List Constraint)
+        → ((s : Site) → Contains xs s ↔ Contains ys s) → AreGiven table xs list
+        → AreGiven table ys list }
+    ensures one { (table : Table) (sites : List Site) (list other : List Constraint)
+        → AreGiven table sites list → AreGiven table sites other → HaveSameMembers list other }
 {}

@@ -57,7 +57,8 @@ fn bytes_slot(b: Block, n: u32) -> u32
 /// A new block for as many bytes as slot n holds.
 #[tactic(auto, using(cure_scope::proofs::Laws::grows_row))]
 fn put_block(out: &mut Draft, k: &Scope<'_>, b: Block, n: u32)
-    ensures { Grows (BlockMade (has_elements b.kind b.holds) (whole_of k.now) b.kind b.ty n) (Unit {0}) out.old out.new }
+    ensures { Grows (BlockMade (has_elements b.kind b.holds) (whole_of k.now) b.kind b.ty n)
+        (Unit {0}) out.old out.new }
 {
     let tagged = is_tagged(b.kind);
     if has_elements(b) {
@@ -101,7 +102,8 @@ fn put_block_words(out: &mut Draft, k: &Scope<'_>, b: Block, v: u32, bytes: u32)
 #[tactic(auto, using(cure_scope::proofs::Laws::grows_row))]
 fn put_given(out: &mut Draft, k: &Scope<'_>, b: Block, v: u32, bytes: u32, at: Place)
     requires { v + 3 ≤ 1948 }
-    ensures { Grows (BlockGiven (world_of k.now) b.kind b.ty v bytes at) (Unit {0}) out.old out.new }
+    ensures { Grows (BlockGiven (world_of k.now) b.kind b.ty v bytes at)
+        (Unit {0}) out.old out.new }
 {
     let op = Op::Allocate {
         made: MADE,
@@ -118,7 +120,8 @@ fn put_given(out: &mut Draft, k: &Scope<'_>, b: Block, v: u32, bytes: u32, at: P
 /// `malloc`, of as many bytes as slot n holds.
 fn put_malloc(out: &mut Draft, k: &Scope<'_>, b: Block, v: u32, n: u32, at: Place)
     requires { v + 3 ≤ 1948 }
-    ensures { Grows (MallocLines (world_of k.now) b.kind b.holds b.ty v n at) (Unit {0}) out.old out.new }
+    ensures { Grows (MallocLines (world_of k.now) b.kind b.holds b.ty v n at)
+        (Unit {0}) out.old out.new }
 {
     put_block(out, k, b, n);
     put_given(out, k, b, v, bytes_slot(b, n), at)
@@ -145,7 +148,8 @@ fn put_amount(out: &mut Draft, p: u32, q: u32)
 /// `calloc`, of as many bytes as the product of slots p and q.
 fn put_calloc(out: &mut Draft, k: &Scope<'_>, b: Block, v: u32, p: u32, q: u32, at: Place)
     requires { v + 3 ≤ 1948 }
-    ensures { Grows (CallocLines (world_of k.now) b.kind b.holds b.ty v p q at) (Unit {0}) out.old out.new }
+    ensures { Grows (CallocLines (world_of k.now) b.kind b.holds b.ty v p q at)
+        (Unit {0}) out.old out.new }
 {
     put_amount(out, p, q);
     let mut none = start(out);
@@ -160,7 +164,8 @@ fn put_calloc(out: &mut Draft, k: &Scope<'_>, b: Block, v: u32, p: u32, q: u32, 
 #[tactic(auto, using(crate::proofs::Rules::class_rules))]
 fn holds_pointer(out: &mut Draft, known: &Known<'_>, t: TypeId, count: u32) -> bool
     requires { count ≡ length known.now }
-    ensures { Grows (When (result ≡ holds_pointer known.now t) (Line [])) (IsTypeIn known.now t) out.old out.new }
+    ensures { Grows (When (result ≡ holds_pointer known.now t) (Line []))
+        (IsTypeIn known.now t) out.old out.new }
 {
     if t.0 < count {
         return known.layout(t).holds;
@@ -172,7 +177,8 @@ fn holds_pointer(out: &mut Draft, known: &Known<'_>, t: TypeId, count: u32) -> b
 /// An allocation (C99 7.20.3): a block of so many bytes of the source, with its cured ones.
 pub fn put_allocate(out: &mut Draft, k: &Scope<'_>, known: &Known<'_>, i: Allocate)
     requires { known.now ≡ k.now.layouts.now.table }
-    ensures { (types : Typing) → Grows (AllocateCured i (world_of k.now) types) (CanAllocate i (whole_of k.now)) out.old out.new }
+    ensures { (types : Typing) → Grows (AllocateCured i (world_of k.now) types)
+        (CanAllocate i (whole_of k.now)) out.old out.new }
 {
     let count = k.layouts.types().count();
     match i {

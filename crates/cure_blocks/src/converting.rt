@@ -45,7 +45,8 @@ fn narrow_in(k: &Scope<'_>, t: TypeId) -> Option<Narrow>
 
 /// A word becomes an integer of the type.
 fn put_narrowed(out: &mut Draft, k: &Scope<'_>, v: u32, a: u32, t: TypeId)
-    ensures { Grows (Line (narrowed_lines v a (narrow_at (shape_at k.now.layouts.now.table t)))) (Unit {0}) out.old out.new }
+    ensures { Grows (Line (narrowed_lines v a (narrow_at (shape_at k.now.layouts.now.table t))))
+        (Unit {0}) out.old out.new }
 {
     match narrow_in(k, t) {
         None => put(out, Instr::Copy(v, a)),
@@ -182,7 +183,8 @@ pub(crate) fn put_noded(out: &mut Draft, k: &Scope<'_>, v: u32, a: u32, t: TypeI
 fn put_words(out: &mut Draft, k: &Scope<'_>, c: Converted, v: u32, a: u32)
     requires to { v + 3 ≤ 1948 }
     requires from { a + 3 ≤ 1948 }
-    ensures { Grows (ConvertedWords c.from c.to (world_of k.now) c.class c.source c.target v a) (AreConverted c.from c.to) out.old out.new }
+    ensures { Grows (ConvertedWords c.from c.to (world_of k.now) c.class c.source c.target v a)
+        (AreConverted c.from c.to) out.old out.new }
 {
     match c.from {
         Kind::Safe => match c.to {
@@ -224,7 +226,8 @@ fn put_words(out: &mut Draft, k: &Scope<'_>, c: Converted, v: u32, a: u32)
 fn put_converted(out: &mut Draft, k: &Scope<'_>, c: Converted, v: u32, a: u32, at: Place)
     requires to { v + 3 ≤ 1948 }
     requires from { a + 3 ≤ 1948 }
-    ensures { Grows (PointerConverted c.from c.to (world_of k.now) c.class c.source c.target v a at) (AreConverted c.from c.to) out.old out.new }
+    ensures { Grows (PointerConverted c.from c.to (world_of k.now) c.class c.source c.target v a at)
+        (AreConverted c.from c.to) out.old out.new }
 {
     let op = Op::Convert {
         p: pointer_slots(a),
@@ -238,7 +241,8 @@ fn put_converted(out: &mut Draft, k: &Scope<'_>, c: Converted, v: u32, a: u32, a
 #[tactic(auto, using(crate::proofs::Rules::class_rules))]
 fn class_of(out: &mut Draft, known: &Known<'_>, u: TypeId, v: TypeId, count: u32) -> FlowClass
     requires { count ≡ length known.now }
-    ensures { Grows (When (result ≡ flow_class known.now u v) (Line [])) (AreTypes known.now u v) out.old out.new }
+    ensures { Grows (When (result ≡ flow_class known.now u v) (Line []))
+        (AreTypes known.now u v) out.old out.new }
 {
     if u.0 < count {
         if v.0 < count {
@@ -259,7 +263,8 @@ fn class_of(out: &mut Draft, known: &Known<'_>, u: TypeId, v: TypeId, count: u32
 /// the program's types.
 pub fn put_convert(out: &mut Draft, k: &Scope<'_>, known: &Known<'_>, i: Convert)
     requires { known.now ≡ k.now.layouts.now.table }
-    ensures { (types : Typing) → Grows (ConvertCured i (world_of k.now) types) (CanConvert i (whole_of k.now)) out.old out.new }
+    ensures { (types : Typing) → Grows (ConvertCured i (world_of k.now) types)
+        (CanConvert i (whole_of k.now)) out.old out.new }
 {
     match i {
         Convert::Integer { into, from, ty } => {

@@ -12,7 +12,8 @@ use cured_code::{Instr, Narrow};
 
 /// A call of the C library that is no allocation. Nothing is reclaimed by `free`; `putchar` gives the byte that it writes.
 pub fn put_runtime(out: &mut Draft, i: RuntimeCall)
-    ensures { (k : Scope) (types : Typing) → Grows (RuntimeCured i (world_of k) types) (Unit {0}) out.old out.new }
+    ensures { (k : Scope) (types : Typing) → Grows (RuntimeCured i (world_of k) types)
+        (Unit {0}) out.old out.new }
 {
     match i {
         RuntimeCall::Free {

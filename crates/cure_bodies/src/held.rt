@@ -32,7 +32,8 @@ pub(crate) fn held_at(k: &Scope<'_>, t: TypeId) -> Option<Held>
 
 /// What functions of the type give.
 fn given_by(k: &Scope<'_>, t: TypeId) -> Option<Held>
-    ensures { held_views result ≡ given_by k.now.layouts.now.table (shape_at k.now.layouts.now.table t) }
+    ensures { held_views result ≡ given_by k.now.layouts.now.table
+        (shape_at k.now.layouts.now.table t) }
 {
     let types = k.layouts.types();
     if t.0 < types.count() {
@@ -47,7 +48,8 @@ fn given_by(k: &Scope<'_>, t: TypeId) -> Option<Held>
 
 /// What functions give that pointers of the type point to.
 pub(crate) fn called_by(k: &Scope<'_>, t: TypeId) -> Option<Held>
-    ensures { held_views result ≡ called_by k.now.layouts.now.table (shape_at k.now.layouts.now.table t) }
+    ensures { held_views result ≡ called_by k.now.layouts.now.table
+        (shape_at k.now.layouts.now.table t) }
 {
     let types = k.layouts.types();
     if t.0 < types.count() {

@@ -23,7 +23,8 @@ use phys_types::Known;
 /// A constant, an address or a copy.
 pub(crate) fn set(out: &mut Draft, k: &Scope<'_>, held: &mut Holdings, i: Set)
     requires fine { out.old.fine ≡ true }
-    ensures made { Makes (InstrCured (source.Set i) (world_of k.now) held.old held.new) out.old out.new }
+    ensures made { Makes (InstrCured (source.Set i) (world_of k.now) held.old held.new) out.old
+        out.new }
     ensures ready { InstrReady (source.Set i) (world_of k.now) held.old out.old out.new }
 {
     let from = copied(held, i);
@@ -34,7 +35,8 @@ pub(crate) fn set(out: &mut Draft, k: &Scope<'_>, held: &mut Holdings, i: Set)
 /// An operator on integers, or a truth value.
 pub(crate) fn calculate(out: &mut Draft, k: &Scope<'_>, held: &mut Holdings, i: Calculate)
     requires fine { out.old.fine ≡ true }
-    ensures made { Makes (InstrCured (source.Calculate i) (world_of k.now) held.old held.new) out.old out.new }
+    ensures made { Makes (InstrCured (source.Calculate i) (world_of k.now) held.old held.new)
+        out.old out.new }
     ensures ready { InstrReady (source.Calculate i) (world_of k.now) held.old out.old out.new }
 {
     let operand = asked(held, i);
@@ -45,7 +47,8 @@ pub(crate) fn calculate(out: &mut Draft, k: &Scope<'_>, held: &mut Holdings, i: 
 /// An instruction on pointers.
 pub(crate) fn point(out: &mut Draft, k: &Scope<'_>, held: &mut Holdings, i: Point)
     requires fine { out.old.fine ≡ true }
-    ensures made { Makes (InstrCured (source.Point i) (world_of k.now) held.old held.new) out.old out.new }
+    ensures made { Makes (InstrCured (source.Point i) (world_of k.now) held.old held.new) out.old
+        out.new }
     ensures ready { InstrReady (source.Point i) (world_of k.now) held.old out.old out.new }
 {
     let operand = point_asked(held, i);
@@ -63,7 +66,8 @@ pub(crate) fn convert(
 )
     requires known { known.now ≡ k.now.layouts.now.table }
     requires fine { out.old.fine ≡ true }
-    ensures made { Makes (InstrCured (source.Convert i) (world_of k.now) held.old held.new) out.old out.new }
+    ensures made { Makes (InstrCured (source.Convert i) (world_of k.now) held.old held.new) out.old
+        out.new }
     ensures ready { InstrReady (source.Convert i) (world_of k.now) held.old out.old out.new }
 {
     put_convert(out, k, known, i);
@@ -80,7 +84,8 @@ pub(crate) fn access(
 )
     requires known { known.now ≡ k.now.layouts.now.table }
     requires fine { out.old.fine ≡ true }
-    ensures made { Makes (InstrCured (source.Access i) (world_of k.now) held.old held.new) out.old out.new }
+    ensures made { Makes (InstrCured (source.Access i) (world_of k.now) held.old held.new) out.old
+        out.new }
     ensures ready { InstrReady (source.Access i) (world_of k.now) held.old out.old out.new }
 {
     put_access(out, k, known, i);
@@ -102,7 +107,8 @@ pub(crate) fn allocate(
 )
     requires known { known.now ≡ k.now.layouts.now.table }
     requires fine { out.old.fine ≡ true }
-    ensures made { Makes (InstrCured (source.Allocate i) (world_of k.now) held.old held.new) out.old out.new }
+    ensures made { Makes (InstrCured (source.Allocate i) (world_of k.now) held.old held.new) out.old
+        out.new }
     ensures ready { InstrReady (source.Allocate i) (world_of k.now) held.old out.old out.new }
 {
     put_allocate(out, k, known, i);
@@ -112,7 +118,8 @@ pub(crate) fn allocate(
 /// A call.
 pub(crate) fn call(out: &mut Draft, k: &Scope<'_>, held: &mut Holdings, i: Call)
     requires fine { out.old.fine ≡ true }
-    ensures made { Makes (InstrCured (source.Call i) (world_of k.now) held.old held.new) out.old out.new }
+    ensures made { Makes (InstrCured (source.Call i) (world_of k.now) held.old held.new) out.old
+        out.new }
     ensures ready { InstrReady (source.Call i) (world_of k.now) held.old out.old out.new }
 {
     put_call(out, k, i);
@@ -122,7 +129,8 @@ pub(crate) fn call(out: &mut Draft, k: &Scope<'_>, held: &mut Holdings, i: Call)
 /// A call of the C library.
 pub(crate) fn runtime(out: &mut Draft, k: &Scope<'_>, held: &mut Holdings, i: RuntimeCall)
     requires fine { out.old.fine ≡ true }
-    ensures made { Makes (InstrCured (source.Runtime i) (world_of k.now) held.old held.new) out.old out.new }
+    ensures made { Makes (InstrCured (source.Runtime i) (world_of k.now) held.old held.new) out.old
+        out.new }
     ensures ready { InstrReady (source.Runtime i) (world_of k.now) held.old out.old out.new }
 {
     let _ = k;

@@ -22,7 +22,8 @@ pub(crate) fn note_set(
     from: Option<Held>,
     i: Set,
 )
-    ensures { Notes (into_of_set i) (set_result i k.now.layouts.now.table (held_views from)) out.old held.old out.new held.new }
+    ensures { Notes (into_of_set i) (set_result i k.now.layouts.now.table (held_views from)) out.old
+        held.old out.new held.new }
 {
     match i {
         Set::Integer { into, value: _, ty } => note(out, held, into, held_at(k, ty)),
@@ -63,7 +64,8 @@ fn operator_result(k: &Scope<'_>, operator: Operator, ty: TypeId) -> Option<Held
 
 /// What an operator on integers, or a truth value, leaves.
 pub(crate) fn note_calculate(out: &mut Draft, k: &Scope<'_>, held: &mut Holdings, i: Calculate)
-    ensures { Notes (into_of_calculate i) (calculate_result i k.now.layouts.now.table) out.old held.old out.new held.new }
+    ensures { Notes (into_of_calculate i) (calculate_result i k.now.layouts.now.table) out.old
+        held.old out.new held.new }
 {
     match i {
         Calculate::Negate {
@@ -91,7 +93,8 @@ pub(crate) fn note_calculate(out: &mut Draft, k: &Scope<'_>, held: &mut Holdings
 
 /// What an instruction on pointers leaves.
 pub(crate) fn note_point(out: &mut Draft, k: &Scope<'_>, held: &mut Holdings, i: Point)
-    ensures { Notes (into_of_point i) (point_result i k.now.layouts.now.table) out.old held.old out.new held.new }
+    ensures { Notes (into_of_point i) (point_result i k.now.layouts.now.table) out.old held.old
+        out.new held.new }
 {
     match i {
         Point::Move { into, ty, .. } => note(out, held, into, held_at(k, ty)),
@@ -121,7 +124,8 @@ pub(crate) fn note_point(out: &mut Draft, k: &Scope<'_>, held: &mut Holdings, i:
 
 /// What a conversion leaves.
 pub(crate) fn note_convert(out: &mut Draft, k: &Scope<'_>, held: &mut Holdings, i: Convert)
-    ensures { Notes (into_of_convert i) (convert_result i k.now.layouts.now.table) out.old held.old out.new held.new }
+    ensures { Notes (into_of_convert i) (convert_result i k.now.layouts.now.table) out.old held.old
+        out.new held.new }
 {
     match i {
         Convert::Integer { into, from: _, ty } => note(out, held, into, held_at(k, ty)),
@@ -153,7 +157,8 @@ pub(crate) fn note_allocate(out: &mut Draft, held: &mut Holdings, i: Allocate)
 
 /// What a call leaves.
 pub(crate) fn note_call(out: &mut Draft, k: &Scope<'_>, held: &mut Holdings, i: Call)
-    ensures { Notes i.into (called_by k.now.layouts.now.table (shape_at k.now.layouts.now.table i.ty)) out.old held.old out.new held.new }
+    ensures { Notes i.into (called_by k.now.layouts.now.table
+        (shape_at k.now.layouts.now.table i.ty)) out.old held.old out.new held.new }
 {
     note(out, held, i.into, called_by(k, i.ty))
 }

@@ -68,8 +68,10 @@ pub(crate) fn point_asked(held: &Holdings, i: Point) -> Option<Held>
 
 /// An instruction on pointers. `held` is what the temporary holds whose kind of value it has to know.
 pub(crate) fn put_point(out: &mut Draft, k: &Scope<'_>, held: Option<Held>, i: Point)
-    ensures made { (types : Typing) → IsPointAsked i types (held_views held) → Makes (PointCured i (world_of k.now) types) out.old out.new }
-    ensures ready { (types : Typing) → IsPointAsked i types (held_views held) → StaysReady (CanPoint i (world_of k.now) types) out.old out.new }
+    ensures made { (types : Typing) → IsPointAsked i types (held_views held)
+        → Makes (PointCured i (world_of k.now) types) out.old out.new }
+    ensures ready { (types : Typing) → IsPointAsked i types (held_views held)
+        → StaysReady (CanPoint i (world_of k.now) types) out.old out.new }
 {
     match i {
         Point::Move {
@@ -189,8 +191,10 @@ fn put_stored(
     value: (Temp, TypeId),
     at: StorePlaces,
 )
-    ensures made { (types : Typing) → Makes (ObjectCured (access.Store target value.0 value.1 at.own at.assignment) (world_of k.now) types) out.old out.new }
-    ensures ready { StaysReady (CanAccess (access.Store target value.0 value.1 at.own at.assignment) (world_of k.now)) out.old out.new }
+    ensures made { (types : Typing) → Makes (ObjectCured (access.Store target value.0 value.1 at.own
+        at.assignment) (world_of k.now) types) out.old out.new }
+    ensures ready { StaysReady (CanAccess (access.Store target value.0 value.1 at.own at.assignment)
+        (world_of k.now)) out.old out.new }
 {
     let (v, ty) = value;
     match target {
@@ -228,8 +232,10 @@ fn put_copied(
     at: CopyPlaces,
 )
     requires { known.now ≡ k.now.layouts.now.table }
-    ensures made { (types : Typing) → Makes (ObjectCured (access.Copy target at.to from.pointer from.node at.from from.ty at.assignment) (world_of k.now) types) out.old out.new }
-    ensures ready { StaysReady (CanAccess (access.Copy target at.to from.pointer from.node at.from from.ty at.assignment) (world_of k.now)) out.old out.new }
+    ensures made { (types : Typing) → Makes (ObjectCured (access.Copy target at.to from.pointer
+        from.node at.from from.ty at.assignment) (world_of k.now) types) out.old out.new }
+    ensures ready { StaysReady (CanAccess (access.Copy target at.to from.pointer from.node at.from
+        from.ty at.assignment) (world_of k.now)) out.old out.new }
 {
     match target {
         Target::Pointer { pointer, node } => {

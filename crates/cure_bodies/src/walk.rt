@@ -23,7 +23,8 @@ use phys_types::Known;
 /// A value is made ready to be tested: the slot that isn't 0 where it is true.
 fn test(out: &mut Draft, k: &Scope<'_>, held: &Holdings, t: Temp) -> u32
     ensures made { TestedFor (world_of k.now) (holds_now held.now) t result out.old out.new }
-    ensures ready { (types : Typing) → Includes (holds_now held.now) types → StaysReady (IsSome (types t)) out.old out.new }
+    ensures ready { (types : Typing) → Includes (holds_now held.now) types
+        → StaysReady (IsSome (types t)) out.old out.new }
 {
     match held_in(held, t) {
         Some(x) => put_tested(out, k, x, t),

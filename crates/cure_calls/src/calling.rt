@@ -51,7 +51,8 @@ fn has_room(n: u32, j: u32, words: u32) -> bool
 
 /// The arguments, values of numbers from `n` on, in the row from its slot `j` on.
 fn put_arguments(out: &mut Draft, k: &Scope<'_>, n: u32, parameters: &[TypeId], j: u32)
-    ensures { Grows (ArgumentRow (world_of k.now) n parameters.now j) (FitsRow (world_of k.now) n parameters.now j) out.old out.new }
+    ensures { Grows (ArgumentRow (world_of k.now) n parameters.now j)
+        (FitsRow (world_of k.now) n parameters.now j) out.old out.new }
 {
     match parameters.split_first() {
         None => keep(out),
@@ -118,7 +119,8 @@ struct Calling {
 /// A call through a pointer, behind its check.
 fn put_called(out: &mut Draft, k: &Scope<'_>, c: Calling, parameters: &[TypeId], at: Place)
     requires { c.a + 3 ≤ 1948 }
-    ensures { Grows (CalledBy (world_of k.now) c.kind c.function parameters.now c.first c.a c.v at) (FitsRow (world_of k.now) c.first parameters.now 0) out.old out.new }
+    ensures { Grows (CalledBy (world_of k.now) c.kind c.function parameters.now c.first c.a c.v at)
+        (FitsRow (world_of k.now) c.first parameters.now 0) out.old out.new }
 {
     let number = signature(k, c.function);
     let op = Op::Call {
@@ -136,7 +138,8 @@ fn put_called(out: &mut Draft, k: &Scope<'_>, c: Calling, parameters: &[TypeId],
 /// A call in a function.
 fn put_inner_call(out: &mut Draft, k: &Scope<'_>, i: Call)
     requires { k.now.number ≢ 0 }
-    ensures { (types : Typing) → Grows (CallCured i (world_of k.now) types) (CanCall (world_of k.now) i.ty i.first) out.old out.new }
+    ensures { (types : Typing) → Grows (CallCured i (world_of k.now) types)
+        (CanCall (world_of k.now) i.ty i.first) out.old out.new }
 {
     match pointer_in(k, i.ty) {
         Some(p) => match function_in(k, p.to) {
@@ -161,7 +164,8 @@ fn put_inner_call(out: &mut Draft, k: &Scope<'_>, i: Call)
 
 /// A call.
 pub fn put_call(out: &mut Draft, k: &Scope<'_>, i: Call)
-    ensures { (types : Typing) → Grows (CallCured i (world_of k.now) types) (CanCall (world_of k.now) i.ty i.first) out.old out.new }
+    ensures { (types : Typing) → Grows (CallCured i (world_of k.now) types)
+        (CanCall (world_of k.now) i.ty i.first) out.old out.new }
 {
     if k.number == 0 {
         refuse(out)

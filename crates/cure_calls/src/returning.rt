@@ -19,7 +19,8 @@ use cured_code::Instr;
 /// What is asked of a pointer that is returned.
 fn put_return_asks(out: &mut Draft, k: &Scope<'_>, kind: Kind, a: u32, at: Place)
     requires { a + 3 ≤ 1948 }
-    ensures { Grows (ReturnAsks (map plan k.now.variables.now) kind a at) (Unit {0}) out.old out.new }
+    ensures { Grows (ReturnAsks (map plan k.now.variables.now) kind a at)
+        (Unit {0}) out.old out.new }
 {
     match k.variables.split_first() {
         None => keep(out),
@@ -36,7 +37,8 @@ fn put_return_asks(out: &mut Draft, k: &Scope<'_>, kind: Kind, a: u32, at: Place
 
 /// A function returns a value of the type.
 pub fn put_return(out: &mut Draft, k: &Scope<'_>, value: Temp, ty: TypeId, at: Place)
-    ensures { (types : Typing) → Grows (ReturnCured value ty at (world_of k.now) types) (CanReturn (world_of k.now) ty) out.old out.new }
+    ensures { (types : Typing) → Grows (ReturnCured value ty at (world_of k.now) types)
+        (CanReturn (world_of k.now) ty) out.old out.new }
 {
     let a = column(value);
     if k.number == 0 {

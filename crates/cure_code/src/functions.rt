@@ -45,7 +45,8 @@ fn words_of(types: &Types, kinds: &Kinds, parameters: &[Parameter]) -> u32
     requires few { length parameters.now ≤ 127 }
     requires typed { All (λ x. IsType types.now x.ty) parameters.now }
     requires nodes { All (λ e. AreNodesOf (length kinds.now) e.shape) types.now }
-    ensures sum { result ≡ sum_by (λ x. words_at types.now (kind_at kinds.now) x.ty) parameters.now }
+    ensures sum { result ≡ sum_by (λ x. words_at types.now (kind_at kinds.now) x.ty)
+        parameters.now }
     ensures most { result ≤ 381 }
 {
     let mut sum = 0;

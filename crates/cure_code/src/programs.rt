@@ -71,7 +71,8 @@ fn tables_of<'a>(
 /// Function 0 and the functions of a program.
 fn functions_of(w: &Setting<'_>) -> Result<Vec<Function>, NoMemory>
     requires { IsSet w.now }
-    ensures { IfOk result (λ made. AreMade (whole_in w.now) w.now.program.now (length w.now.program.now.functions) made.items) }
+    ensures { IfOk result (λ made. AreMade (whole_in w.now) w.now.program.now
+        (length w.now.program.now.functions) made.items) }
 {
     let functions = &w.program.functions;
     let all = functions.0.as_slice();
@@ -97,7 +98,8 @@ fn cured_functions(
     requires few { HaveFewParameters program.now.types }
     requires count { length kinds.now ≡ program.now.nodes }
     requires tables { AreTables program.now kinds.now t.now }
-    ensures { IfOk result (λ made. AreMade (whole_with program.now kinds.now nodes.now t.now) program.now (length program.now.functions) made.items) }
+    ensures { IfOk result (λ made. AreMade (whole_with program.now kinds.now nodes.now t.now)
+        program.now (length program.now.functions) made.items) }
 {
     let functions = &program.functions;
     let w = Setting {
@@ -156,8 +158,10 @@ pub fn cure(alloc: Global, code: &Cil, kinds: &Kinds, nodes: &Nodes<'_>) -> Resu
     requires told { IsToldOf code.now }
     requires solution { IsSolutionOf code.now (kind_at kinds.now) }
     requires few { HaveFewParameters code.now.types }
-    requires targets { AreTargetsNamed code.now (kind_at kinds.now) (node_at nodes.now) (length nodes.now.parents) }
-    ensures curing { IfOk result (IsCuredProgram code.now (kind_at kinds.now) (node_at nodes.now) nodes.now.parents) }
+    requires targets { AreTargetsNamed code.now (kind_at kinds.now) (node_at nodes.now)
+        (length nodes.now.parents) }
+    ensures curing { IfOk result (IsCuredProgram code.now (kind_at kinds.now)
+        (node_at nodes.now) nodes.now.parents) }
 
     // So it runs as its code, where the kinds make that plain.
     ensures alike { IfOk result (λ cured. IsPlainProgram code.now (kind_at kinds.now) →

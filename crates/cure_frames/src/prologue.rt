@@ -37,7 +37,8 @@ fn words_of(k: &Scope<'_>, t: TypeId) -> u32
 /// A parameter that comes from slot p on is stored into a new variable.
 fn put_parameter(out: &mut Draft, k: &Scope<'_>, home: NodeId, t: TypeId, p: u32, variable: u32)
     requires { p + 3 ≤ 1948 }
-    ensures { Grows (ParameterStored (world_of k.now) home t p variable) (CanReach (whole_of k.now) home t) out.old out.new }
+    ensures { Grows (ParameterStored (world_of k.now) home t p variable)
+        (CanReach (whole_of k.now) home t) out.old out.new }
 {
     let outer = k.kind_of(home);
     let s = PointerSlots {
@@ -66,7 +67,8 @@ pub fn put_parameters(
     requires typed { All (λ x. IsType k.now.layouts.now.table x.ty) parameters.now }
     requires slots { p + 3 * length parameters.now + 3 ≤ 1948 }
     requires variables { variable + length parameters.now < 4294967296 }
-    ensures { Grows (ParametersStored (world_of k.now) parameters.now p variable) (CanStoreAll (whole_of k.now) parameters.now) out.old out.new }
+    ensures { Grows (ParametersStored (world_of k.now) parameters.now p variable)
+        (CanStoreAll (whole_of k.now) parameters.now) out.old out.new }
 {
     let Some((first, rest)) = parameters.split_first() else {
         return keep(out);

@@ -54,7 +54,8 @@ pub struct Reached {
 /// A scalar is loaded.
 #[tactic(auto, using(crate::proofs::AccessLaws::no_scalar))]
 pub fn put_load(out: &mut Draft, k: &Scope<'_>, into: Temp, from: Reached, at: Place)
-    ensures { (types : Typing) → Grows (AccessCured (access.Load into from.pointer from.node from.ty at) (world_of k.now) types) (CanReach (whole_of k.now) from.node from.ty) out.old out.new }
+    ensures { (types : Typing) → Grows (AccessCured (access.Load into from.pointer from.node from.ty
+        at) (world_of k.now) types) (CanReach (whole_of k.now) from.node from.ty) out.old out.new }
 {
     let outer = k.kind_of(from.node);
     let va = (column(into), column(from.pointer));
@@ -70,7 +71,9 @@ pub fn put_load(out: &mut Draft, k: &Scope<'_>, into: Temp, from: Reached, at: P
 /// A scalar is stored to what a pointer points to.
 #[tactic(auto, using(crate::proofs::AccessLaws::no_scalar))]
 pub fn put_store(out: &mut Draft, k: &Scope<'_>, to: Reached, value: Temp, at: StorePlaces)
-    ensures { (types : Typing) → Grows (AccessCured (access.Store (target.Pointer to.pointer to.node) value to.ty at.own at.assignment) (world_of k.now) types) (CanReach (whole_of k.now) to.node to.ty) out.old out.new }
+    ensures { (types : Typing) → Grows (AccessCured (access.Store
+        (target.Pointer to.pointer to.node) value to.ty at.own at.assignment)
+        (world_of k.now) types) (CanReach (whole_of k.now) to.node to.ty) out.old out.new }
 {
     let outer = k.kind_of(to.node);
     let s = pointer_slots(column(to.pointer));

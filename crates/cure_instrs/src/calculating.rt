@@ -102,7 +102,8 @@ fn division(i: Width, a: u32, b: u32) -> Op
 #[tactic(auto, using(cure_scope::proofs::Laws::grows_row))]
 fn put_divided(out: &mut Draft, i: Width, signed: Instr, unsigned: Instr, ab: (u32, u32), at: Place)
     requires { IsIntegerSize i.bytes }
-    ensures { Grows (Divided signed unsigned (width_view i) ab.0 ab.1 at) (Unit {0}) out.old out.new }
+    ensures { Grows (Divided signed unsigned (width_view i) ab.0 ab.1 at)
+        (Unit {0}) out.old out.new }
 {
     put_guarded(out, division(i, ab.0, ab.1), Kind::Safe, at);
     put(out, if i.signed { signed } else { unsigned })
@@ -167,7 +168,8 @@ pub(crate) struct Operands {
 /// An operator on two slots.
 fn put_binary(out: &mut Draft, i: Width, operator: Operator, on: Operands, at: Place)
     requires { IsIntegerSize i.bytes }
-    ensures { Grows (binary_lines operator (width_view i) on.v on.a on.b at) (Unit {0}) out.old out.new }
+    ensures { Grows (binary_lines operator (width_view i) on.v on.a on.b at)
+        (Unit {0}) out.old out.new }
 {
     let Operands { v, a, b } = on;
     match operator {
@@ -207,8 +209,10 @@ fn put_binary(out: &mut Draft, i: Width, operator: Operator, on: Operands, at: P
 
 /// A value is made ready to be tested: the slot that isn't 0 where it is true.
 pub fn put_tested(out: &mut Draft, k: &Scope<'_>, held: Held, t: Temp) -> u32
-    ensures slot { result ≡ tested_slot (is_wide (whole_of k.now) (held_view held)) (fixed_column t) }
-    ensures made { Grows (Line (tested_lines (is_wide (whole_of k.now) (held_view held)) (fixed_column t))) (Unit {0}) out.old out.new }
+    ensures slot { result ≡ tested_slot (is_wide (whole_of k.now) (held_view held))
+        (fixed_column t) }
+    ensures made { Grows (Line (tested_lines (is_wide (whole_of k.now) (held_view held))
+        (fixed_column t))) (Unit {0}) out.old out.new }
 {
     let a = column(t);
     if is_wide(k, held) {
@@ -223,7 +227,8 @@ pub fn put_tested(out: &mut Draft, k: &Scope<'_>, held: Held, t: Temp) -> u32
 /// `-` in a type.
 #[tactic(auto, using(crate::proofs::PieceLaws::refused))]
 fn put_negate(out: &mut Draft, k: &Scope<'_>, into: Temp, operand: Temp, ty: TypeId)
-    ensures { (types : Typing) → Grows (CalculateCured (calculate.Negate into operand ty) (world_of k.now) types) (HasInteger (whole_of k.now) ty) out.old out.new }
+    ensures { (types : Typing) → Grows (CalculateCured (calculate.Negate into operand ty)
+        (world_of k.now) types) (HasInteger (whole_of k.now) ty) out.old out.new }
 {
     match integer_in(k, ty) {
         Some(i) => {
@@ -237,7 +242,8 @@ fn put_negate(out: &mut Draft, k: &Scope<'_>, into: Temp, operand: Temp, ty: Typ
 /// `~` in a type.
 #[tactic(auto, using(crate::proofs::PieceLaws::refused))]
 fn put_complement(out: &mut Draft, k: &Scope<'_>, into: Temp, operand: Temp, ty: TypeId)
-    ensures { (types : Typing) → Grows (CalculateCured (calculate.Complement into operand ty) (world_of k.now) types) (HasInteger (whole_of k.now) ty) out.old out.new }
+    ensures { (types : Typing) → Grows (CalculateCured (calculate.Complement into operand ty)
+        (world_of k.now) types) (HasInteger (whole_of k.now) ty) out.old out.new }
 {
     match integer_in(k, ty) {
         Some(i) => {
@@ -262,7 +268,9 @@ struct Operation {
 /// An operator on integers of a type.
 #[tactic(auto, using(crate::proofs::PieceLaws::refused))]
 fn put_operation(out: &mut Draft, k: &Scope<'_>, o: Operation, at: Place)
-    ensures { (types : Typing) → Grows (CalculateCured (calculate.Binary o.into o.operator o.left o.right o.ty at) (world_of k.now) types) (HasInteger (whole_of k.now) o.ty) out.old out.new }
+    ensures { (types : Typing) → Grows (CalculateCured (calculate.Binary o.into o.operator o.left
+        o.right o.ty at) (world_of k.now) types)
+        (HasInteger (whole_of k.now) o.ty) out.old out.new }
 {
     match integer_in(k, o.ty) {
         Some(i) => put_binary(
@@ -283,7 +291,9 @@ fn put_operation(out: &mut Draft, k: &Scope<'_>, o: Operation, at: Place)
 /// Whether the operand is true.
 #[tactic(auto, using(crate::proofs::PieceLaws::refused))]
 fn put_truth(out: &mut Draft, k: &Scope<'_>, held: Option<Held>, into: Temp, operand: Temp)
-    ensures { (types : Typing) → types operand ≡ held_views held → Grows (CalculateCured (calculate.Truth into operand) (world_of k.now) types) (IsSome (held_views held)) out.old out.new }
+    ensures { (types : Typing) → types operand ≡ held_views held
+        → Grows (CalculateCured (calculate.Truth into operand) (world_of k.now) types)
+        (IsSome (held_views held)) out.old out.new }
 {
     match held {
         Some(held) => {
@@ -297,7 +307,9 @@ fn put_truth(out: &mut Draft, k: &Scope<'_>, held: Option<Held>, into: Temp, ope
 /// Whether the operand is false.
 #[tactic(auto, using(crate::proofs::PieceLaws::refused))]
 fn put_not(out: &mut Draft, k: &Scope<'_>, held: Option<Held>, into: Temp, operand: Temp)
-    ensures { (types : Typing) → types operand ≡ held_views held → Grows (CalculateCured (calculate.Not into operand) (world_of k.now) types) (IsSome (held_views held)) out.old out.new }
+    ensures { (types : Typing) → types operand ≡ held_views held
+        → Grows (CalculateCured (calculate.Not into operand) (world_of k.now) types)
+        (IsSome (held_views held)) out.old out.new }
 {
     match held {
         Some(held) => {
@@ -310,7 +322,9 @@ fn put_not(out: &mut Draft, k: &Scope<'_>, held: Option<Held>, into: Temp, opera
 
 /// An operator on integers, or a truth value. `held` is what the operand holds whose truth value is wanted.
 pub fn put_calculate(out: &mut Draft, k: &Scope<'_>, held: Option<Held>, i: Calculate)
-    ensures { (types : Typing) → IsAsked i types (held_views held) → Grows (CalculateCured i (world_of k.now) types) (CanCalculate i (whole_of k.now) (held_views held)) out.old out.new }
+    ensures { (types : Typing) → IsAsked i types (held_views held)
+        → Grows (CalculateCured i (world_of k.now) types)
+        (CanCalculate i (whole_of k.now) (held_views held)) out.old out.new }
 {
     match i {
         Calculate::Negate { into, operand, ty } => put_negate(out, k, into, operand, ty),

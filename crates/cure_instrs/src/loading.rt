@@ -27,7 +27,8 @@ pub(crate) fn put_integer_load(
     at: Place,
 )
     requires { va.1 + 3 ≤ 1948 }
-    ensures { Grows (LoadedInteger (world_of k.now) of.0 of.1 (width_view i) va.0 va.1 at) (Unit {0}) out.old out.new }
+    ensures { Grows (LoadedInteger (world_of k.now) of.0 of.1 (width_view i) va.0 va.1 at)
+        (Unit {0}) out.old out.new }
 {
     let (kind, t) = of;
     let (v, a) = va;
@@ -72,7 +73,8 @@ fn put_tagged_load(out: &mut Draft, v: u32, a: u32)
 fn put_pointer_loaded(out: &mut Draft, k: &Scope<'_>, outer: Kind, kind: Kind, va: (u32, u32))
     requires to { va.0 + 3 ≤ 1948 }
     requires from { va.1 + 3 ≤ 1948 }
-    ensures { Grows (pointer_loaded outer kind (world_of k.now) va.0 va.1) (AgreeOn outer kind) out.old out.new }
+    ensures { Grows (pointer_loaded outer kind (world_of k.now) va.0 va.1)
+        (AgreeOn outer kind) out.old out.new }
 {
     let (v, a) = va;
     let _ = k;
@@ -100,7 +102,8 @@ pub(crate) fn put_pointer_load(
 )
     requires to { va.0 + 3 ≤ 1948 }
     requires from { va.1 + 3 ≤ 1948 }
-    ensures { Grows (LoadedPointer (world_of k.now) kinds.0 kinds.1 t va.0 va.1 at) (AgreeOn kinds.0 kinds.1) out.old out.new }
+    ensures { Grows (LoadedPointer (world_of k.now) kinds.0 kinds.1 t va.0 va.1 at)
+        (AgreeOn kinds.0 kinds.1) out.old out.new }
 {
     let (outer, kind) = kinds;
     let op = Op::ReadPointer {

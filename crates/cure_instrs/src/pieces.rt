@@ -69,7 +69,8 @@ pub fn put_noughts(out: &mut Draft, kind: Kind, v: u32)
 
 /// A slot is narrowed to an integer of the type.
 pub fn put_narrowing(out: &mut Draft, v: u32, i: Width)
-    ensures { Grows (Line (narrowing_lines v (narrow_of (width_view i)))) (Unit {0}) out.old out.new }
+    ensures { Grows (Line (narrowing_lines v (narrow_of (width_view i))))
+        (Unit {0}) out.old out.new }
 {
     match narrow_of(i) {
         None => keep(out),

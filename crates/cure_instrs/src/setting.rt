@@ -94,7 +94,8 @@ fn put_object(out: &mut Draft, k: &Scope<'_>, kind: Kind, object: Object, v: u32
 fn put_held(out: &mut Draft, k: &Scope<'_>, held: Option<Held>, v: u32, a: u32)
     requires to { v + 3 ≤ 1948 }
     requires from { a + 3 ≤ 1948 }
-    ensures { Grows (copied_lines (whole_of k.now) (held_views held) v a) (Unit {0}) out.old out.new }
+    ensures { Grows (copied_lines (whole_of k.now) (held_views held) v a)
+        (Unit {0}) out.old out.new }
 {
     match held {
         None => keep(out),
@@ -104,7 +105,8 @@ fn put_held(out: &mut Draft, k: &Scope<'_>, held: Option<Held>, v: u32, a: u32)
 
 /// A constant, an address or a copy. `from` is what the temporary holds that is copied.
 pub fn put_set(out: &mut Draft, k: &Scope<'_>, from: Option<Held>, i: Set)
-    ensures { (types : Typing) → IsCopied i types (held_views from) → Grows (SetCured i (world_of k.now) types) (CanSet i (whole_of k.now)) out.old out.new }
+    ensures { (types : Typing) → IsCopied i types (held_views from)
+        → Grows (SetCured i (world_of k.now) types) (CanSet i (whole_of k.now)) out.old out.new }
 {
     match i {
         Set::Integer { into, value, ty: _ } => put(out, Instr::Const(column(into), word(value))),

@@ -53,7 +53,8 @@ pub fn put_integer_store(
     sv: (PointerSlots, u32),
     at: Place,
 )
-    ensures { Grows (StoredInteger (world_of k.now) of.0 of.1 (width_view i) sv.0 sv.1 at) (Unit {0}) out.old out.new }
+    ensures { Grows (StoredInteger (world_of k.now) of.0 of.1 (width_view i) sv.0 sv.1 at)
+        (Unit {0}) out.old out.new }
 {
     let (kind, t) = of;
     let (s, v) = sv;
@@ -104,7 +105,8 @@ pub fn put_pointer_stored(
     sv: (PointerSlots, u32),
 )
     requires { sv.1 + 3 ≤ 1948 }
-    ensures { Grows (pointer_stored outer kind (world_of k.now) sv.0 sv.1) (AgreeOn outer kind) out.old out.new }
+    ensures { Grows (pointer_stored outer kind (world_of k.now) sv.0 sv.1)
+        (AgreeOn outer kind) out.old out.new }
 {
     let (s, v) = sv;
     let _ = k;
@@ -138,7 +140,8 @@ pub fn put_pointer_store(
     at: StorePlaces,
 )
     requires { sv.1 + 3 ≤ 1948 }
-    ensures { Grows (StoredPointer (world_of k.now) kinds.0 kinds.1 t sv.0 sv.1 at.own at.assignment) (AgreeOn kinds.0 kinds.1) out.old out.new }
+    ensures { Grows (StoredPointer (world_of k.now) kinds.0 kinds.1 t sv.0 sv.1 at.own
+        at.assignment) (AgreeOn kinds.0 kinds.1) out.old out.new }
 {
     let (outer, kind) = kinds;
     let (s, v) = sv;

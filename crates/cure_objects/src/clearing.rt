@@ -56,7 +56,8 @@ fn put_cleared(out: &mut Draft, k: &Scope<'_>, kind: Kind, o: Object, t: TypeId)
 
 /// An object is cleared (C99 6.7.8): its bytes become zero.
 pub fn put_clear(out: &mut Draft, k: &Scope<'_>, o: Object)
-    ensures { (types : Typing) → Grows (ObjectCured (access.Clear o) (world_of k.now) types) (HasPlan (world_of k.now) o) out.old out.new }
+    ensures { (types : Typing) → Grows (ObjectCured (access.Clear o) (world_of k.now) types)
+        (HasPlan (world_of k.now) o) out.old out.new }
 {
     match planned(k, o) {
         Some(x) => put_cleared(out, k, k.kind_of(x.home), o, x.ty),

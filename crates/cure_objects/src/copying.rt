@@ -110,7 +110,8 @@ fn put_pointer(out: &mut Draft, k: &Scope<'_>, c: Cells, offset: u64, node: Node
     requires complete { IsComplete k.now.layouts.now.table c.ty }
     requires within { offset ≤ size_of k.now.layouts.now.table c.ty }
     requires whole { IsBetweenPointers (cells_of k.now.layouts.now.table c.ty) offset }
-    ensures { Grows (PointerKept (world_of k.now) c.from c.ty c.source c.home c.assignment offset node) (Unit {0}) out.old out.new }
+    ensures { Grows (PointerKept (world_of k.now) c.from c.ty c.source c.home c.assignment offset
+        node) (Unit {0}) out.old out.new }
 {
     let kind = k.kind_of(node);
     let far = pointer_offset(k, c.from, c.ty, offset);
@@ -125,7 +126,8 @@ fn put_pointer(out: &mut Draft, k: &Scope<'_>, c: Cells, offset: u64, node: Node
 /// What stands at a spot is checked, if it is a pointer.
 fn put_spot(out: &mut Draft, k: &Scope<'_>, c: Cells, spot: Spot)
     requires { IsSpotOf k.now.layouts.now.table c.ty spot }
-    ensures { Grows (ItemKept (world_of k.now) c.from c.ty c.source c.home c.assignment spot.start spot.item) (Unit {0}) out.old out.new }
+    ensures { Grows (ItemKept (world_of k.now) c.from c.ty c.source c.home c.assignment spot.start
+        spot.item) (Unit {0}) out.old out.new }
 {
     match spot.item {
         Item::Pointer(node, _) => put_pointer(out, k, c, spot.start, node),
@@ -137,7 +139,8 @@ fn put_spot(out: &mut Draft, k: &Scope<'_>, c: Cells, spot: Spot)
 /// The pointers among the spots are checked, one after another.
 fn put_spots(out: &mut Draft, k: &Scope<'_>, c: Cells, spots: &[Spot])
     requires { All (IsSpotOf k.now.layouts.now.table c.ty) spots.now }
-    ensures { Grows (SpotsKept (world_of k.now) c.from c.ty c.source c.home c.assignment spots.now) (Unit {0}) out.old out.new }
+    ensures { Grows (SpotsKept (world_of k.now) c.from c.ty c.source c.home c.assignment spots.now)
+        (Unit {0}) out.old out.new }
 {
     for spot in spots {
         put_spot(out, k, c, *spot);
@@ -148,7 +151,8 @@ fn put_spots(out: &mut Draft, k: &Scope<'_>, c: Cells, spots: &[Spot])
 #[tactic(auto, using(cure_instrs::proofs::PieceLaws::refused))]
 fn put_cells(out: &mut Draft, k: &Scope<'_>, c: Struct, spots: &[Spot], assignment: Place)
     requires { All (IsSpotOf k.now.layouts.now.table c.ty) spots.now }
-    ensures { Grows (SpotsCopied c.to (world_of k.now) c.from c.ty spots.now c.source c.target assignment) (IsTyped c.to) out.old out.new }
+    ensures { Grows (SpotsCopied c.to (world_of k.now) c.from c.ty spots.now c.source c.target
+        assignment) (IsTyped c.to) out.old out.new }
 {
     let cells = Cells {
         from: c.from,
@@ -169,7 +173,8 @@ fn put_cells(out: &mut Draft, k: &Scope<'_>, c: Struct, spots: &[Spot], assignme
 /// The pointers among the spots are checked, and then comes an instruction.
 fn put_kept(out: &mut Draft, k: &Scope<'_>, c: Cells, spots: &[Spot], moved: Instr)
     requires { All (IsSpotOf k.now.layouts.now.table c.ty) spots.now }
-    ensures { Grows (Then (SpotsKept (world_of k.now) c.from c.ty c.source c.home c.assignment spots.now) (Line (moved ∷ []))) (Unit {0}) out.old out.new }
+    ensures { Grows (Then (SpotsKept (world_of k.now) c.from c.ty c.source c.home c.assignment
+        spots.now) (Line (moved ∷ []))) (Unit {0}) out.old out.new }
 {
     put_spots(out, k, c, spots);
     put(out, moved)
@@ -178,7 +183,8 @@ fn put_kept(out: &mut Draft, k: &Scope<'_>, c: Cells, spots: &[Spot], moved: Ins
 /// A struct with pointers is copied.
 fn put_holder(out: &mut Draft, k: &Scope<'_>, c: Struct, spots: &[Spot], assignment: Place)
     requires { All (IsSpotOf k.now.layouts.now.table c.ty) spots.now }
-    ensures { Grows (HolderCopied c.from c.to (world_of k.now) c.ty spots.now c.source c.target assignment) (AreCopied true c.from c.to) out.old out.new }
+    ensures { Grows (HolderCopied c.from c.to (world_of k.now) c.ty spots.now c.source c.target
+        assignment) (AreCopied true c.from c.to) out.old out.new }
 {
     match c.from {
         Kind::Wild => put_tags(out, c.to, source_size(k, c.ty), c.source, c.target),
@@ -190,8 +196,11 @@ fn put_holder(out: &mut Draft, k: &Scope<'_>, c: Struct, spots: &[Spot], assignm
 
 /// A struct is copied, behind its checks.
 fn put_struct(out: &mut Draft, k: &Scope<'_>, c: Struct, layout: &Layout, at: CopyPlaces)
-    requires { layout.now.holds ≡ true → All (IsSpotOf k.now.layouts.now.table c.ty) layout.now.spots.items }
-    ensures { Grows (StructCopied (world_of k.now) layout.now.holds layout.now.spots.items c.from c.to c.ty c.source c.target at.from at.to at.assignment) (AreCopied layout.now.holds c.from c.to) out.old out.new }
+    requires { layout.now.holds ≡ true → All (IsSpotOf k.now.layouts.now.table c.ty)
+        layout.now.spots.items }
+    ensures { Grows (StructCopied (world_of k.now) layout.now.holds layout.now.spots.items c.from
+        c.to c.ty c.source c.target at.from at.to at.assignment)
+        (AreCopied layout.now.holds c.from c.to) out.old out.new }
 {
     let size = size_at(k, c.from, c.ty);
     if layout.holds {
@@ -243,7 +252,9 @@ pub fn put_pointer_copy(
     at: CopyPlaces,
 )
     requires { known.now ≡ k.now.layouts.now.table }
-    ensures { (types : Typing) → Grows (ObjectCured (access.Copy (target.Pointer to.0 to.1) at.to from.pointer from.node at.from from.ty at.assignment) (world_of k.now) types) (CanCopy (whole_of k.now) to.1 from.node from.ty) out.old out.new }
+    ensures { (types : Typing) → Grows (ObjectCured (access.Copy
+        (target.Pointer to.0 to.1) at.to from.pointer from.node at.from from.ty at.assignment)
+        (world_of k.now) types) (CanCopy (whole_of k.now) to.1 from.node from.ty) out.old out.new }
 {
     let (pointer, node) = to;
     match layout_in(known, from.ty, k.layouts.types()) {
@@ -271,7 +282,10 @@ pub fn put_part_copy(
     at: CopyPlaces,
 )
     requires { known.now ≡ k.now.layouts.now.table }
-    ensures { (types : Typing) → Grows (ObjectCured (access.Copy (target.Part to.object to.home to.ty to.offset) at.to from.pointer from.node at.from from.ty at.assignment) (world_of k.now) types) (CanCopyPart (whole_of k.now) to.home to.ty to.offset from.node from.ty) out.old out.new }
+    ensures { (types : Typing) → Grows (ObjectCured (access.Copy
+        (target.Part to.object to.home to.ty to.offset) at.to from.pointer from.node at.from from.ty
+        at.assignment) (world_of k.now) types) (CanCopyPart
+        (whole_of k.now) to.home to.ty to.offset from.node from.ty) out.old out.new }
 {
     let kind = k.kind_of(to.home);
     match layout_in(known, from.ty, k.layouts.types()) {

@@ -36,7 +36,8 @@ pub struct Part {
 /// How far a part lies behind the start of an object once cured.
 #[tactic(auto, unfolding(crate::specs::Cured::CanPlace))]
 pub(crate) fn part_offset(k: &Scope<'_>, kind: Kind, u: TypeId, offset: u64) -> Option<u64>
-    ensures there { IfSome result (λ n. IsBetweenPointers (cells_of k.now.layouts.now.table u) offset → n ≡ cured_offset (world_of k.now) kind u offset) }
+    ensures there { IfSome result (λ n. IsBetweenPointers (cells_of k.now.layouts.now.table u)
+        offset → n ≡ cured_offset (world_of k.now) kind u offset) }
     ensures complete { IfSome result (λ n. IsComplete k.now.layouts.now.table u) }
     ensures none { IfNone result (CanPlace (whole_of k.now) u offset → ⊥) }
 {
@@ -75,7 +76,8 @@ pub(crate) fn put_part(out: &mut Draft, k: &Scope<'_>, kind: Kind, o: Object, n:
 /// A scalar of the type is stored there.
 fn put_scalar(out: &mut Draft, k: &Scope<'_>, home: NodeId, t: TypeId, v: u32, at: StorePlaces)
     requires { v + 3 ≤ 1948 }
-    ensures { Grows (ScalarStored (world_of k.now) ((world_of k.now).whole.kind home) t part_at v at.own at.assignment) (CanReach (whole_of k.now) home t) out.old out.new }
+    ensures { Grows (ScalarStored (world_of k.now) ((world_of k.now).whole.kind home) t part_at v
+        at.own at.assignment) (CanReach (whole_of k.now) home t) out.old out.new }
 {
     let outer = k.kind_of(home);
     let s = PointerSlots {
@@ -101,7 +103,11 @@ pub fn put_part_store(
     t: TypeId,
     at: StorePlaces,
 )
-    ensures { (types : Typing) → Grows (ObjectCured (access.Store (target.Part to.object to.home to.ty to.offset) value t at.own at.assignment) (world_of k.now) types) (CanPlace (whole_of k.now) to.ty to.offset × (IsHome ((whole_of k.now).kind to.home) × CanReach (whole_of k.now) to.home t)) out.old out.new }
+    ensures { (types : Typing) → Grows (ObjectCured (access.Store
+        (target.Part to.object to.home to.ty to.offset) value t at.own at.assignment)
+        (world_of k.now) types) (CanPlace (whole_of k.now) to.ty to.offset
+        × (IsHome ((whole_of k.now).kind to.home) × CanReach (whole_of k.now) to.home t)) out.old
+        out.new }
 {
     let kind = k.kind_of(to.home);
     match part_offset(k, kind, to.ty, to.offset) {

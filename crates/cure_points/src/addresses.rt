@@ -31,7 +31,9 @@ fn is_aggregate(shape: &TypeShape) -> bool
 
 /// How far a member lies behind the start of its struct, for a use of a kind.
 fn member_offset(k: &Scope<'_>, kind: Kind, t: TypeId, i: u32) -> Option<u64>
-    ensures there { IfSome result (λ n. IsBetweenPointers (cells_of (whole_of k.now).table t) (offset_of (whole_of k.now).table t i) → n ≡ cured_offset (world_of k.now) kind t (offset_of (whole_of k.now).table t i)) }
+    ensures there { IfSome result (λ n. IsBetweenPointers (cells_of (whole_of k.now).table t)
+        (offset_of (whole_of k.now).table t i) → n
+        ≡ cured_offset (world_of k.now) kind t (offset_of (whole_of k.now).table t i)) }
     ensures none { IfNone result (HasMember (whole_of k.now) t i → ⊥) }
 {
     let types = k.layouts.types();
@@ -71,7 +73,9 @@ pub struct MemberOf {
 
 /// The address of a member.
 pub fn put_member(out: &mut Draft, k: &Scope<'_>, m: MemberOf, at: Place)
-    ensures { (types : Typing) → Grows (PointCured (point.Member m.into m.from m.outer m.ty m.member m.inner m.member_ty at) (world_of k.now) types) (HasMember (whole_of k.now) m.ty m.member) out.old out.new }
+    ensures { (types : Typing) → Grows (PointCured (point.Member m.into m.from m.outer m.ty m.member
+        m.inner m.member_ty at) (world_of k.now) types)
+        (HasMember (whole_of k.now) m.ty m.member) out.old out.new }
 {
     let outer = k.kind_of(m.outer);
     match member_offset(k, outer, m.ty, m.member) {
@@ -108,7 +112,8 @@ pub struct ArrayAt {
 
 /// The address of an array's first element, behind a check of the array's own address where `checked`.
 pub fn put_decay(out: &mut Draft, k: &Scope<'_>, d: ArrayAt, checked: bool, at: Place)
-    ensures { (types : Typing) → Grows (PointCured (point.Decay d.into d.from d.outer d.array checked d.inner d.element at) (world_of k.now) types) (Unit {0}) out.old out.new }
+    ensures { (types : Typing) → Grows (PointCured (point.Decay d.into d.from d.outer d.array
+        checked d.inner d.element at) (world_of k.now) types) (Unit {0}) out.old out.new }
 {
     let part = Part {
         kind: k.kind_of(d.inner),
@@ -136,7 +141,9 @@ pub fn put_address(
     inner: NodeId,
     ty: TypeId,
 )
-    ensures { (types : Typing) (outer : NodeId) → Grows (PointCured (point.Address into from outer inner ty) (world_of k.now) types) (Unit {0}) out.old out.new }
+    ensures { (types : Typing) (outer : NodeId) → Grows (PointCured
+        (point.Address into from outer inner ty) (world_of k.now) types)
+        (Unit {0}) out.old out.new }
 {
     let part = Part {
         kind: k.kind_of(inner),
@@ -167,7 +174,9 @@ pub fn put_null(
     pointer: Temp,
     different: bool,
 )
-    ensures { (types : Typing) (t : TypeId) → types pointer ≡ held_views held → Grows (PointCured (point.IsNull into pointer t different) (world_of k.now) types) (IsSome (held_views held)) out.old out.new }
+    ensures { (types : Typing) (t : TypeId) → types pointer ≡ held_views held
+        → Grows (PointCured (point.IsNull into pointer t different) (world_of k.now) types)
+        (IsSome (held_views held)) out.old out.new }
 {
     match held {
         Some(held) => {

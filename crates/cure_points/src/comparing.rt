@@ -47,7 +47,8 @@ struct Pair {
 fn put_difference_of(out: &mut Draft, k: &Scope<'_>, p: Pair, at: Place)
     requires left { p.a + 3 ≤ 1948 }
     requires right { p.b + 3 ≤ 1948 }
-    ensures { Grows (DifferenceOf (world_of k.now) p.left p.right p.to p.v p.a p.b at) (Unit {0}) out.old out.new }
+    ensures { Grows (DifferenceOf (world_of k.now) p.left p.right p.to p.v p.a p.b at)
+        (Unit {0}) out.old out.new }
 {
     let size = size_at(k, p.left, p.to);
     let op = Op::Order {
@@ -65,7 +66,8 @@ fn put_difference_of(out: &mut Draft, k: &Scope<'_>, p: Pair, at: Place)
 /// Whether two pointers with these home words are one.
 #[tactic(auto, using(check_insert::proofs::Laws::grows_puts))]
 fn put_same(out: &mut Draft, wide: bool, v: u32, p: (PointerSlots, u32), q: (PointerSlots, u32))
-    ensures { (k : Scope) → Grows (Line (equal_lines (world_of k) wide v p.0 p.1 q.0 q.1)) (Unit {0}) out.old out.new }
+    ensures { (k : Scope) → Grows (Line (equal_lines (world_of k) wide v p.0 p.1 q.0 q.1))
+        (Unit {0}) out.old out.new }
 {
     if wide {
         put_two(
@@ -86,7 +88,8 @@ fn put_same(out: &mut Draft, wide: bool, v: u32, p: (PointerSlots, u32), q: (Poi
 
 /// Whether two pointers are one, by their kinds.
 fn put_sameness(out: &mut Draft, kinds: (Kind, Kind), v: u32, p: PointerSlots, q: PointerSlots)
-    ensures { (k : Scope) → Grows (Line (sameness_lines (world_of k) kinds.0 kinds.1 v p q)) (Unit {0}) out.old out.new }
+    ensures { (k : Scope) → Grows (Line (sameness_lines (world_of k) kinds.0 kinds.1 v p q))
+        (Unit {0}) out.old out.new }
 {
     let wide = is_wide_kind(kinds.0) || is_wide_kind(kinds.1);
     put_same(
@@ -107,7 +110,8 @@ fn put_comparison(
     p: PointerSlots,
     q: PointerSlots,
 )
-    ensures { (k : Scope) → Grows (Line (compared_lines which (world_of k) kinds.0 kinds.1 v p q)) (Unit {0}) out.old out.new }
+    ensures { (k : Scope) → Grows (Line (compared_lines which (world_of k) kinds.0 kinds.1 v p q))
+        (Unit {0}) out.old out.new }
 {
     match which {
         Comparison::Equal => put_sameness(out, kinds, v, p, q),
@@ -167,7 +171,8 @@ fn comparing(k: &Scope<'_>, which: Comparison, p: PointerSlots, other: Kind, q: 
 fn put_compared_by(out: &mut Draft, k: &Scope<'_>, which: Comparison, p: Pair, at: Place)
     requires left { p.a + 3 ≤ 1948 }
     requires right { p.b + 3 ≤ 1948 }
-    ensures { Grows (ComparedBy which (world_of k.now) p.left p.right p.v p.a p.b at) (Unit {0}) out.old out.new }
+    ensures { Grows (ComparedBy which (world_of k.now) p.left p.right p.v p.a p.b at)
+        (Unit {0}) out.old out.new }
 {
     let a = pointer_slots(p.a);
     let b = pointer_slots(p.b);
@@ -187,7 +192,9 @@ pub struct Pointers {
 
 /// A difference of two pointers.
 pub fn put_difference(out: &mut Draft, k: &Scope<'_>, d: Pointers, at: Place)
-    ensures { (types : Typing) → Grows (PointCured (point.Difference d.into d.left d.left_ty d.right d.right_ty at) (world_of k.now) types) (HavePointers (whole_of k.now) d.left_ty d.right_ty) out.old out.new }
+    ensures { (types : Typing) → Grows (PointCured (point.Difference d.into d.left d.left_ty d.right
+        d.right_ty at) (world_of k.now) types)
+        (HavePointers (whole_of k.now) d.left_ty d.right_ty) out.old out.new }
 {
     match pointer_in(k, d.left_ty) {
         Some(p) => match pointer_in(k, d.right_ty) {
@@ -212,7 +219,9 @@ pub fn put_difference(out: &mut Draft, k: &Scope<'_>, d: Pointers, at: Place)
 
 /// A comparison of two pointers.
 pub fn put_compare(out: &mut Draft, k: &Scope<'_>, which: Comparison, d: Pointers, at: Place)
-    ensures { (types : Typing) → Grows (PointCured (point.Compare d.into which d.left d.left_ty d.right d.right_ty at) (world_of k.now) types) (HavePointers (whole_of k.now) d.left_ty d.right_ty) out.old out.new }
+    ensures { (types : Typing) → Grows (PointCured (point.Compare d.into which d.left d.left_ty
+        d.right d.right_ty at) (world_of k.now) types)
+        (HavePointers (whole_of k.now) d.left_ty d.right_ty) out.old out.new }
 {
     match pointer_in(k, d.left_ty) {
         Some(p) => match pointer_in(k, d.right_ty) {

@@ -149,7 +149,8 @@ fn put_moved(out: &mut Draft, k: &Scope<'_>, m: Motion, on: Operands, at: Place)
     requires small { IsSmallReach (world_of k.now) m.kind m.to }
     requires to { on.v + 3 ≤ 1948 }
     requires from { on.a + 3 ≤ 1948 }
-    ensures { Grows (MovedBy (world_of k.now) m.kind m.to m.way (width_view m.by) on.v on.a on.n at) (Unit {0}) out.old out.new }
+    ensures { Grows (MovedBy (world_of k.now) m.kind m.to m.way (width_view m.by) on.v on.a on.n at)
+        (Unit {0}) out.old out.new }
 {
     let size = reach_of(k, m.kind, m.to);
     let op = Op::Move {
@@ -188,7 +189,8 @@ fn is_small(k: &Scope<'_>, kind: Kind, to: TypeId) -> bool
 fn put_small(out: &mut Draft, k: &Scope<'_>, m: Motion, on: Operands, at: Place)
     requires to { on.v + 3 ≤ 1948 }
     requires from { on.a + 3 ≤ 1948 }
-    ensures { Grows (MovedBy (world_of k.now) m.kind m.to m.way (width_view m.by) on.v on.a on.n at) (IsSmallReach (world_of k.now) m.kind m.to) out.old out.new }
+    ensures { Grows (MovedBy (world_of k.now) m.kind m.to m.way (width_view m.by) on.v on.a on.n at)
+        (IsSmallReach (world_of k.now) m.kind m.to) out.old out.new }
 {
     if is_small(k, m.kind, m.to) {
         put_moved(out, k, m, on, at)
@@ -212,7 +214,9 @@ fn integer_held(held: Option<Held>) -> Option<Width>
 
 /// A move. `held` is what the integer's temporary holds.
 pub fn put_move(out: &mut Draft, k: &Scope<'_>, held: Option<Held>, m: Moving, at: Place)
-    ensures { (types : Typing) → types m.amount ≡ held_views held → Grows (PointCured (point.Move m.into m.pointer m.amount m.way m.ty at) (world_of k.now) types) (CanMove (world_of k.now) m.ty (held_views held)) out.old out.new }
+    ensures { (types : Typing) → types m.amount ≡ held_views held
+        → Grows (PointCured (point.Move m.into m.pointer m.amount m.way m.ty at)
+        (world_of k.now) types) (CanMove (world_of k.now) m.ty (held_views held)) out.old out.new }
 {
     match pointer_in(k, m.ty) {
         Some(p) => match integer_held(held) {

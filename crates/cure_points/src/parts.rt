@@ -42,7 +42,8 @@ pub struct Part {
 pub fn put_part(out: &mut Draft, k: &Scope<'_>, part: Part, v: u32, a: u32, o: u32)
     requires to { v + 3 ≤ 1948 }
     requires from { a + 3 ≤ 1948 }
-    ensures { Grows (Line (part_row part.kind (world_of k.now) part.size part.ty v a o)) (Unit {0}) out.old out.new }
+    ensures { Grows (Line (part_row part.kind (world_of k.now) part.size part.ty v a o))
+        (Unit {0}) out.old out.new }
 {
     let one = Instr::Add(v, a, o);
     match part.kind {
@@ -106,7 +107,8 @@ pub fn put_part_of(
 )
     requires to { ov.1 + 3 ≤ 1948 }
     requires from { from.a + 3 ≤ 1948 }
-    ensures { Grows (PartOf (world_of k.now) from.kind from.ty part.kind part.size part.ty ov.0 ov.1 from.a at) (Unit {0}) out.old out.new }
+    ensures { Grows (PartOf (world_of k.now) from.kind from.ty part.kind part.size part.ty ov.0 ov.1
+        from.a at) (Unit {0}) out.old out.new }
 {
     let (offset, v) = ov;
     put(out, Instr::Const(OFFSET, offset));

@@ -16,7 +16,8 @@ ghost use Rattle.cure_ranges.specs.Bodies.{IsBodyInRange, AreTargetsNamed};
 /// The cured program of a program in shape is in range, where its type nodes and signatures are few enough and the instructions of its
 /// functions name what there is.
 pub fn cured_parts_are_in_range()
-    ensures { (p : Program) (kind : NodeId → Kind) (node : TypeId → ℕ) (parents : List ℕ) (parts : Parts)
+    ensures { (p : Program) (kind : NodeId → Kind) (node : TypeId → ℕ) (parents : List ℕ)
+        (parts : Parts)
         → IsInShape p → IsCuredProgram p kind node parents parts
         → length parents ≤ 65536 → AreParentsEarlier parents → length parts.sigs ≤ 65536
         → All (IsBodyInRange parts) parts.functions → IsInRange parts }
@@ -25,7 +26,9 @@ pub fn cured_parts_are_in_range()
 /// The instructions of the functions of the cured program of a program in shape name what there is, where each data type that an RTTI
 /// pointer flows to has a type node.
 pub fn bodies_are_in_range()
-    ensures { (p : Program) (kind : NodeId → Kind) (node : TypeId → ℕ) (parents : List ℕ) (parts : Parts)
-        → IsInShape p → IsCuredProgram p kind node parents parts → AreTargetsNamed p kind node (length parents)
+    ensures { (p : Program) (kind : NodeId → Kind) (node : TypeId → ℕ) (parents : List ℕ)
+        (parts : Parts)
+        → IsInShape p → IsCuredProgram p kind node parents parts
+        → AreTargetsNamed p kind node (length parents)
         → All (IsBodyInRange parts) parts.functions }
 {}

@@ -22,7 +22,8 @@ pub fn parts_begin_between_pointers()
 /// The curer refuses no instruction in shape: what its functions ask of the instruction is so, where kinds are a solution for the sites
 /// of the program, and sites tell of each pointer that is known.
 pub fn can_be_cured()
-    ensures { (k : Context) (w : World) (i : Instr) (types after : Typing) → IsCurable k w → AreAsked k.sites types → IsShaped i k types after → CanBeCured i w types }
+    ensures { (k : Context) (w : World) (i : Instr) (types after : Typing) → IsCurable k w
+        → AreAsked k.sites types → IsShaped i k types after → CanBeCured i w types }
 {}
 
 /// The functions and the static initialisers of a program in shape are curable under a solution: the sites tell all of the program,

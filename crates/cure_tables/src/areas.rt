@@ -52,7 +52,8 @@ pub fn areas_of(
     requires objects { All (IsObject layouts.now.table (length kinds.now)) objects.now }
     requires kinds { layouts.now.kinds ≡ kinds.now }
     ensures { IfOk result (λ areas.
-        line_areas areas.items ≡ areas_for layouts.now.table (kind_at kinds.now) (map plan objects.now)) }
+        line_areas areas.items ≡ areas_for layouts.now.table (kind_at kinds.now)
+        (map plan objects.now)) }
 {
     let mut areas = Vec::with_capacity(alloc, objects.len())?;
     'objects: for object in objects {

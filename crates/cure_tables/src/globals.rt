@@ -62,9 +62,11 @@ pub fn globals_of(
     kinds: &Kinds,
     statics: &[Static],
 ) -> Result<Vec<GlobalLine>, NoMemory>
-    requires objects { All (λ s. IsObject layouts.now.table (length kinds.now) s.planned) statics.now }
+    requires objects { All (λ s. IsObject layouts.now.table (length kinds.now) s.planned)
+        statics.now }
     requires kinds { layouts.now.kinds ≡ kinds.now }
-    ensures { IfOk result (λ all. AreGlobals layouts.now.table (kind_at kinds.now) statics.now all.items) }
+    ensures { IfOk result (λ all. AreGlobals layouts.now.table
+        (kind_at kinds.now) statics.now all.items) }
 {
     let mut all = Vec::with_capacity(alloc, statics.len())?;
     'statics: for object in statics {

@@ -132,7 +132,8 @@ fn is_node(names: &Names, n: u32) -> bool
 // Each of these says of its group's instructions whether they are in range, and None of the others.
 
 fn are_words_kept(names: &Names, instr: &Instr) -> Option<bool>
-    ensures { MatchOption result (group instr.now ≡ Words → ⊥) (λ kept. IsTrue kept ↔ IsInstrInRange names.now instr.now) }
+    ensures { MatchOption result (group instr.now ≡ Words → ⊥)
+        (λ kept. IsTrue kept ↔ IsInstrInRange names.now instr.now) }
 {
     match *instr {
         Instr::Const(v, _) => Some(has_slot(names, v)),
@@ -151,7 +152,8 @@ fn are_words_kept(names: &Names, instr: &Instr) -> Option<bool>
 }
 
 fn are_tests_kept(names: &Names, instr: &Instr) -> Option<bool>
-    ensures { MatchOption result (group instr.now ≡ Tests → ⊥) (λ kept. IsTrue kept ↔ IsInstrInRange names.now instr.now) }
+    ensures { MatchOption result (group instr.now ≡ Tests → ⊥)
+        (λ kept. IsTrue kept ↔ IsInstrInRange names.now instr.now) }
 {
     match *instr {
         Instr::Divu(v, a, b)
@@ -167,7 +169,8 @@ fn are_tests_kept(names: &Names, instr: &Instr) -> Option<bool>
 }
 
 fn are_bytes_kept(names: &Names, instr: &Instr) -> Option<bool>
-    ensures { MatchOption result (group instr.now ≡ Bytes → ⊥) (λ kept. IsTrue kept ↔ IsInstrInRange names.now instr.now) }
+    ensures { MatchOption result (group instr.now ≡ Bytes → ⊥)
+        (λ kept. IsTrue kept ↔ IsInstrInRange names.now instr.now) }
 {
     match *instr {
         Instr::Ld(n, v, a) | Instr::St(n, v, a) => Some(is_access_size(n) && have_two(names, v, a)),
@@ -184,7 +187,8 @@ fn are_bytes_kept(names: &Names, instr: &Instr) -> Option<bool>
 }
 
 fn are_tags_kept(names: &Names, instr: &Instr) -> Option<bool>
-    ensures { MatchOption result (group instr.now ≡ Tags → ⊥) (λ kept. IsTrue kept ↔ IsInstrInRange names.now instr.now) }
+    ensures { MatchOption result (group instr.now ≡ Tags → ⊥)
+        (λ kept. IsTrue kept ↔ IsInstrInRange names.now instr.now) }
 {
     match *instr {
         Instr::Plain(v, a, b, _)
@@ -199,7 +203,8 @@ fn are_tags_kept(names: &Names, instr: &Instr) -> Option<bool>
 }
 
 fn are_lookups_kept(names: &Names, instr: &Instr) -> Option<bool>
-    ensures { MatchOption result (group instr.now ≡ Lookups → ⊥) (λ kept. IsTrue kept ↔ IsInstrInRange names.now instr.now) }
+    ensures { MatchOption result (group instr.now ≡ Lookups → ⊥)
+        (λ kept. IsTrue kept ↔ IsInstrInRange names.now instr.now) }
 {
     match *instr {
         Instr::Frame(v, k) => Some(has_slot(names, v) && (k as usize) < names.areas),
@@ -211,7 +216,8 @@ fn are_lookups_kept(names: &Names, instr: &Instr) -> Option<bool>
 }
 
 fn is_outside_kept(names: &Names, instr: &Instr) -> Option<bool>
-    ensures { MatchOption result (group instr.now ≡ Outside → ⊥) (λ kept. IsTrue kept ↔ IsInstrInRange names.now instr.now) }
+    ensures { MatchOption result (group instr.now ≡ Outside → ⊥)
+        (λ kept. IsTrue kept ↔ IsInstrInRange names.now instr.now) }
 {
     match *instr {
         Instr::Get(a) | Instr::Put(a) | Instr::Exit(a) | Instr::Check(_, _, a) => Some(has_slot(
@@ -223,7 +229,8 @@ fn is_outside_kept(names: &Names, instr: &Instr) -> Option<bool>
 
 /// Whether the instructions that hold no others are in range.
 fn is_straight_kept(names: &Names, instr: &Instr) -> Option<bool>
-    ensures { MatchOption result (group instr.now ≡ Flow) (λ kept. IsTrue kept ↔ IsInstrInRange names.now instr.now) }
+    ensures { MatchOption result (group instr.now ≡ Flow)
+        (λ kept. IsTrue kept ↔ IsInstrInRange names.now instr.now) }
 {
     if let Some(kept) = are_words_kept(names, instr) {
         return Some(kept);
@@ -263,7 +270,8 @@ fn is_flow_kept(names: &Names, instr: &Instr) -> bool
 
 #[cycle(naming)]
 fn is_branch_kept(names: &Names, x: &[Instr]) -> bool
-    ensures { IsTrue result ↔ ((names.now.nest < flat_nest_limit) × AreInstrsInRange (inside_if names.now) x.now) }
+    ensures { IsTrue result ↔ ((names.now.nest < flat_nest_limit)
+        × AreInstrsInRange (inside_if names.now) x.now) }
 {
     if names.nest >= NEST_LIMIT {
         return false;
@@ -274,7 +282,8 @@ fn is_branch_kept(names: &Names, x: &[Instr]) -> bool
 
 #[cycle(naming)]
 fn is_block_kept(names: &Names, x: &[Instr]) -> bool
-    ensures { IsTrue result ↔ ((names.now.nest < flat_nest_limit) × AreInstrsInRange (inside_block names.now) x.now) }
+    ensures { IsTrue result ↔ ((names.now.nest < flat_nest_limit)
+        × AreInstrsInRange (inside_block names.now) x.now) }
 {
     if names.nest >= NEST_LIMIT {
         return false;

@@ -70,7 +70,9 @@ fn are_parents_earlier(parents: &[u32]) -> bool
 }
 
 fn are_globals_in_range(globals: &[GlobalLine]) -> bool
-    ensures { IsTrue result ↔ ((length globals.now ≤ flat_globals_limit) × All IsGlobalInRange globals.now × (sum_by (λ g. g.area.bytes) globals.now ≤ global_bytes_limit)) }
+    ensures { IsTrue result ↔ ((length globals.now ≤ flat_globals_limit)
+        × All IsGlobalInRange globals.now
+        × (sum_by (λ g. g.area.bytes) globals.now ≤ global_bytes_limit)) }
 {
     globals.len() <= GLOBALS_LIMIT
         && globals.iter().all(|global| is_global_in_range(global))
@@ -99,7 +101,8 @@ fn are_bytes_kept(globals: &[GlobalLine]) -> bool
 
 fn are_functions_in_range(sigs: &[Sig], nodes: usize, functions: &[Function]) -> bool
     ensures { IsTrue result ↔ ((length functions.now ≤ flat_functions_limit)
-        × All (IsFunctionInRange sigs.now (sigs_of functions.now) nodes) functions.now × IsStartBare sigs.now functions.now) }
+        × All (IsFunctionInRange sigs.now (sigs_of functions.now) nodes) functions.now
+        × IsStartBare sigs.now functions.now) }
 {
     functions.len() <= FUNCTIONS_LIMIT
         && functions.iter().all(|function| is_function_in_range(sigs, nodes, functions, function))
@@ -124,7 +127,8 @@ fn is_function_in_range(
     functions: &[Function],
     function: &Function,
 ) -> bool
-    ensures { IsTrue result ↔ IsFunctionInRange sigs.now (sigs_of functions.now) nodes function.now }
+    ensures { IsTrue result ↔ IsFunctionInRange sigs.now
+        (sigs_of functions.now) nodes function.now }
 {
     let locals = &function.locals;
     match sigs.get(function.sig as usize) {
@@ -139,7 +143,8 @@ fn is_function_in_range(
 }
 
 fn are_locals_in_range(locals: &[AreaLine]) -> bool
-    ensures { IsTrue result ↔ ((length locals.now ≤ locals_limit) × All (λ area. area.bytes ≤ local_bytes_limit) locals.now) }
+    ensures { IsTrue result ↔ ((length locals.now ≤ locals_limit)
+        × All (λ area. area.bytes ≤ local_bytes_limit) locals.now) }
 {
     locals.len() <= LOCALS_LIMIT && locals.iter().all(|area| area.bytes <= LOCAL_BYTES_LIMIT)
 }
@@ -152,7 +157,8 @@ fn is_body_in_range(
     function: &Function,
     results: u32,
 ) -> bool
-    ensures { IsTrue result ↔ AreInstrsInRange (names_in sigs.now (sigs_of functions.now) nodes function.now results) function.now.body.0.items }
+    ensures { IsTrue result ↔ AreInstrsInRange (names_in sigs.now
+        (sigs_of functions.now) nodes function.now results) function.now.body.0.items }
 {
     let locals = &function.locals;
     let names = Names {

@@ -26,7 +26,8 @@ pub(crate) enum Next<'a> {
 /// The newest slice of the stack.
 #[inline(always)]
 fn top<'a>(stack: &Vec<&'a [Instr]>) -> Option<&'a [Instr]>
-    ensures { MatchOption result (length stack.now.items ≡ 0) (λ slice. IsLast stack.now.items slice) }
+    ensures { MatchOption result (length stack.now.items ≡ 0)
+        (λ slice. IsLast stack.now.items slice) }
 {
     match stack.last() {
         None => None,
@@ -38,10 +39,12 @@ fn top<'a>(stack: &Vec<&'a [Instr]>) -> Option<&'a [Instr]>
 /// turn.
 #[inline(always)]
 pub(crate) fn go_on<'a>(stack: &mut Vec<&'a [Instr]>, turns: &mut u64) -> Next<'a>
-    ensures goes { (parts : Parts) (whole : FlatOutcome) (ks : List Caller) (f j : ℕ) (c : Local) → c.state.turns ≡ turns.old →
+    ensures goes { (parts : Parts) (whole : FlatOutcome) (ks : List Caller) (f j : ℕ) (c : Local)
+        → c.state.turns ≡ turns.old →
         IsReached parts whole ks f j (slices_of stack.old.items) [] c →
         GoesOn parts whole ks f j (slices_of stack.new.items) turns.new c result }
-    ensures less { IsLess turns.old (slices_of stack.old.items) [] turns.new (slices_of stack.new.items) result }
+    ensures less { IsLess turns.old (slices_of stack.old.items) [] turns.new
+        (slices_of stack.new.items) result }
     ensures capacity { vec_capacity stack.new ≡ vec_capacity stack.old }
 {
     let Some(outer) = top(stack) else {
@@ -79,7 +82,8 @@ fn into_part<'a>(
     stack: &mut Vec<&'a [Instr]>,
 ) -> &'a [Instr]
     requires room { vec_len stack.old < vec_capacity stack.old }
-    ensures goes { IsIntoPart stack.old.items stack.new.items here.entry rest.entry part.entry result }
+    ensures goes { IsIntoPart stack.old.items stack.new.items here.entry rest.entry part.entry
+        result }
     ensures capacity { vec_capacity stack.new ≡ vec_capacity stack.old }
 {
     if part.is_empty() {
@@ -100,11 +104,14 @@ pub(crate) fn go_in<'a>(
     turns: &mut u64,
 ) -> Next<'a>
     requires room { vec_len stack.old < vec_capacity stack.old }
-    requires named { (i : Instr) (rest : List Instr) → here.now ≡ i ∷ rest → (areas : ℕ) × IsNamed i (length frame.now) areas }
-    ensures goes { (parts : Parts) (whole : FlatOutcome) (ks : List Caller) (f j : ℕ) (c : Local) → c.state.turns ≡ turns.old → c.slots ≡ frame.now →
+    requires named { (i : Instr) (rest : List Instr) → here.now ≡ i ∷ rest → (areas : ℕ)
+        × IsNamed i (length frame.now) areas }
+    ensures goes { (parts : Parts) (whole : FlatOutcome) (ks : List Caller) (f j : ℕ) (c : Local)
+        → c.state.turns ≡ turns.old → c.slots ≡ frame.now →
         IsReached parts whole ks f j (slices_of stack.old.items) here.now c →
         GoesIn parts whole ks f j (slices_of stack.new.items) here.now turns.new c result }
-    ensures less { IsLess turns.old (slices_of stack.old.items) here.now turns.new (slices_of stack.new.items) result }
+    ensures less { IsLess turns.old (slices_of stack.old.items) here.now turns.new
+        (slices_of stack.new.items) result }
     ensures capacity { vec_capacity stack.new ≡ vec_capacity stack.old }
 {
     let Some((first, rest)) = here.split_first() else {
@@ -142,7 +149,8 @@ pub(crate) fn leave<'a>(stack: &mut Vec<&'a [Instr]>, blocks: u32) -> &'a [Instr
     ensures goes { (parts : Parts) (whole : FlatOutcome) (ks : List Caller) (f j : ℕ) (c : Local) →
         IsLeaving parts whole ks f j (slices_of stack.old.items) blocks c →
         IsReached parts whole ks f j (slices_of stack.new.items) result.now c }
-    ensures less { (t : ℕ) (code : List Instr) → Lessens t (slices_of stack.old.items) code t (slices_of stack.new.items) result.now }
+    ensures less { (t : ℕ) (code : List Instr) → Lessens t (slices_of stack.old.items) code t
+        (slices_of stack.new.items) result.now }
     ensures capacity { vec_capacity stack.new ≡ vec_capacity stack.old }
 {
     let mut left = blocks;

@@ -19,7 +19,8 @@ fn new_block(flat: &mut Flat, tagged: bool, bytes: u64, charge: u64) -> u64
     ensures address { let area : Area = record { tagged = tagged; bytes = bytes } in
         result ≡ (if block_fits flat.old area (charge + 16) then block_address flat.old else 0) }
     ensures memory { let area : Area = record { tagged = tagged; bytes = bytes } in
-        flat.new ≡ (if block_fits flat.old area (charge + 16) then block_made flat.old area (charge + 16) else flat.old) }
+        flat.new ≡ (if block_fits flat.old area (charge + 16) then block_made flat.old area
+        (charge + 16) else flat.old) }
 {
     match charge.checked_add(16) {
         None => 0,
@@ -75,7 +76,8 @@ fn is_node_below(parents: &[u32], a: u64, n: u32) -> bool
 /// The function at an address, where there is one and it has signature `sig`.
 #[inline(always)]
 pub(crate) fn function_of(functions: &[Function], sig: u32, address: u64) -> Option<usize>
-    ensures { result ≡ function_of_sig functions.now sig (function_at (length functions.now) address) }
+    ensures { result ≡ function_of_sig functions.now sig
+        (function_at (length functions.now) address) }
 {
     match function_number(functions.len(), address) {
         None => None,
@@ -128,7 +130,8 @@ pub(crate) fn frame_fits(
 /// Whether a function is at the address, and its frame may be pushed.
 fn has_room(functions: &[Function], frames: &[FramePlan], flat: &Flat, address: u64) -> bool
     requires { frames.now ≡ map frame_areas functions.now }
-    ensures { result ≡ has_room_in functions.now (function_at (length functions.now) address) flat.now }
+    ensures { result ≡ has_room_in functions.now
+        (function_at (length functions.now) address) flat.now }
 {
     match function_number(functions.len(), address) {
         None => false,

@@ -8,8 +8,10 @@ use cc_io::{Failed, Source};
 /// The next byte, or the greatest word at the input's end, after which nothing more is read.
 #[inline(never)]
 pub(crate) fn next_byte<I: Source>(input: &mut I, ended: &mut bool) -> Result<u64, Failed>
-    ensures read { IfOk result (λ word. HasRead (I.held input.old) (I.held input.new) ended.old ended.new word) }
-    ensures failed { OnErr result (HasFailed (I.held input.old) (I.held input.new) ended.old ended.new) }
+    ensures read { IfOk result (λ word. HasRead (I.held input.old)
+        (I.held input.new) ended.old ended.new word) }
+    ensures failed { OnErr result (HasFailed (I.held input.old)
+        (I.held input.new) ended.old ended.new) }
     ensures rose { OnErr result (Rose (I.faults input.old) (I.faults input.new)) }
     ensures later { I.faults input.old ≤ I.faults input.new }
 {

@@ -89,7 +89,8 @@ pub(crate) fn enter_frame(slots: &mut [u64], first: usize, params: usize, base: 
     requires words { first + params ≤ base }
     requires params { params ≤ count }
     requires room { base + count ≤ length slots.old }
-    ensures made { slots.new ≡ take base slots.old ++ (written (take params (drop first slots.old)) (replicate count 0) 0 ++ drop (base + count) slots.old) }
+    ensures made { slots.new ≡ take base slots.old ++ (written (take params (drop first slots.old))
+        (replicate count 0) 0 ++ drop (base + count) slots.old) }
     ensures length { length slots.new ≡ length slots.old }
 {
     let (low, high) = slots.split_at_mut(base);
@@ -100,7 +101,9 @@ pub(crate) fn enter_frame(slots: &mut [u64], first: usize, params: usize, base: 
 fn give_words(slots: &mut [u64], base: usize, top: usize, into: usize, first: usize, count: usize)
     requires words { top + first + count ≤ length slots.old }
     requires frame { base + into + count ≤ top }
-    ensures made { slots.new ≡ take base slots.old ++ (written (take count (drop (top + first) slots.old)) (take (top - base) (drop base slots.old)) into ++ drop top slots.old) }
+    ensures made { slots.new ≡ take base slots.old ++ (written
+        (take count (drop (top + first) slots.old))
+        (take (top - base) (drop base slots.old)) into ++ drop top slots.old) }
     ensures length { length slots.new ≡ length slots.old }
 {
     let (low, high) = slots.split_at_mut(top);
@@ -111,7 +114,8 @@ fn give_words(slots: &mut [u64], base: usize, top: usize, into: usize, first: us
 fn give_zeros(slots: &mut [u64], base: usize, top: usize, into: usize, count: usize)
     requires room { top ≤ length slots.old }
     requires frame { base + into + count ≤ top }
-    ensures made { slots.new ≡ take base slots.old ++ (written (replicate count 0) (take (top - base) (drop base slots.old)) into ++ drop top slots.old) }
+    ensures made { slots.new ≡ take base slots.old ++ (written (replicate count 0)
+        (take (top - base) (drop base slots.old)) into ++ drop top slots.old) }
     ensures length { length slots.new ≡ length slots.old }
 {
     let (low, _) = slots.split_at_mut(top);
@@ -131,7 +135,8 @@ pub(crate) fn give_back(
     requires room { top ≤ length slots.old }
     requires held { IsRowHeld count top (length slots.old) words }
     requires frame { base + into + count ≤ top }
-    ensures made { slots.new ≡ take base slots.old ++ (written (row_given count top slots.old words) (take (top - base) (drop base slots.old)) into ++ drop top slots.old) }
+    ensures made { slots.new ≡ take base slots.old ++ (written (row_given count top slots.old words)
+        (take (top - base) (drop base slots.old)) into ++ drop top slots.old) }
     ensures length { length slots.new ≡ length slots.old }
 {
     match words {

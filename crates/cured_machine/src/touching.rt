@@ -48,7 +48,8 @@ fn store_row(flat: &mut Flat, at: u64, frame: &[u64], v: usize, k: u32)
     requires slots { v + k ≤ length frame.now }
     requires inside { IsTrue (in_flat flat.old.bytes at (8 * k)) }
     requires small { length flat.old.bytes < 2 ^ 32 }
-    ensures { flat.new ≡ with_bytes flat.old (words_stored (bytes_at k frame.now v) flat.old.bytes at) }
+    ensures { flat.new ≡ with_bytes flat.old
+        (words_stored (bytes_at k frame.now v) flat.old.bytes at) }
 {
     if k == 2 {
         flat.store(at, 8, frame[v]);

@@ -70,11 +70,13 @@ pub(crate) fn part(
     alloc: Global,
 ) -> Result<Code, Wrong>
     requires { IsFew names.now }
-    ensures spelled { IfOk result (λ code. lines.old.text ≡ flat_map line_text (code_lines code.0.items) ++ (line_text (closing_line closing) ++ lines.new.text)) }
+    ensures spelled { IfOk result (λ code. lines.old.text ≡ flat_map line_text
+        (code_lines code.0.items) ++ (line_text (closing_line closing) ++ lines.new.text)) }
     ensures shorter { OnOk result (length lines.new.text < length lines.old.text) }
     ensures kept { IfOk result (λ code. AreInstrsInRange names.now code.0.items) }
     ensures read { OnOk result ((parts : List Outer) (rest : List Scope)
-        → AreRead (in_part names.now closing parts rest) lines.old (next (in_part names.now closing parts rest) (told_closing closing)) lines.new) }
+        → AreRead (in_part names.now closing parts rest) lines.old
+        (next (in_part names.now closing parts rest) (told_closing closing)) lines.new) }
     ensures refused { IfErr result (λ why. (parts : List Outer) (rest : List Scope)
         → IsRefused (in_part names.now closing parts rest) lines.old why lines.new.number) }
 {
@@ -115,13 +117,17 @@ fn branch(
     alloc: Global,
 ) -> Result<Instr, Wrong>
     requires { IsFew names.now }
-    ensures spelled { IfOk result (λ i. codes "if" ++ (fields.old ++ (10 ∷ lines.old.text)) ≡ flat_map line_text (lines_of i) ++ lines.new.text) }
+    ensures spelled { IfOk result (λ i. codes "if" ++ (fields.old ++ (10 ∷ lines.old.text))
+        ≡ flat_map line_text (lines_of i) ++ lines.new.text) }
     ensures shorter { OnOk result (length lines.new.text ≤ length lines.old.text) }
     ensures kept { IfOk result (λ i. IsInstrInRange names.now i) }
-    ensures read { OnOk result ((before : Place) (closing : AnyClosing) (parts : List Outer) (rest : List Scope)
+    ensures read { OnOk result ((before : Place) (closing : AnyClosing) (parts : List Outer)
+        (rest : List Scope)
         → IsBegun (codes "if") fields.old before lines.old
-        → AreRead (in_part names.now closing parts rest) before (in_part names.now closing parts rest) lines.new) }
-    ensures refused { IfErr result (λ why. (before : Place) (closing : AnyClosing) (parts : List Outer) (rest : List Scope)
+        → AreRead (in_part names.now closing parts rest) before
+        (in_part names.now closing parts rest) lines.new) }
+    ensures refused { IfErr result (λ why. (before : Place) (closing : AnyClosing)
+        (parts : List Outer) (rest : List Scope)
         → IsBegun (codes "if") fields.old before lines.old
         → IsRefused (in_part names.now closing parts rest) before why lines.new.number) }
 {
@@ -145,14 +151,18 @@ fn branch(
 fn held(lines: &mut Lines, names: &Names, fields: &Fields, alloc: Global) -> Result<Code, Wrong>
     requires { IsFew names.now }
     ensures fields { OnOk result (fields.now ≡ []) }
-    ensures spelled { IfOk result (λ code. lines.old.text ≡ flat_map line_text (code_lines code.0.items) ++ (line_text end_line ++ lines.new.text)) }
+    ensures spelled { IfOk result (λ code. lines.old.text ≡ flat_map line_text
+        (code_lines code.0.items) ++ (line_text end_line ++ lines.new.text)) }
     ensures shorter { OnOk result (length lines.new.text ≤ length lines.old.text) }
     ensures nest { OnOk result (names.now.nest < flat_nest_limit) }
     ensures kept { IfOk result (λ code. AreInstrsInRange (inside_block names.now) code.0.items) }
-    ensures read { OnOk result ((is_loop : Bool) (before : Place) (closing : AnyClosing) (parts : List Outer) (rest : List Scope)
+    ensures read { OnOk result ((is_loop : Bool) (before : Place) (closing : AnyClosing)
+        (parts : List Outer) (rest : List Scope)
         → IsBegun (told_line (told_held is_loop)).name fields.now before lines.old
-        → AreRead (in_part names.now closing parts rest) before (in_part names.now closing parts rest) lines.new) }
-    ensures refused { IfErr result (λ why. (is_loop : Bool) (before : Place) (closing : AnyClosing) (parts : List Outer) (rest : List Scope)
+        → AreRead (in_part names.now closing parts rest) before
+        (in_part names.now closing parts rest) lines.new) }
+    ensures refused { IfErr result (λ why. (is_loop : Bool) (before : Place) (closing : AnyClosing)
+        (parts : List Outer) (rest : List Scope)
         → IsBegun (told_line (told_held is_loop)).name fields.now before lines.old
         → IsRefused (in_part names.now closing parts rest) before why lines.new.number) }
 {

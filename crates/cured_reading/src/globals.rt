@@ -39,7 +39,8 @@ fn pairs(digits: &[u8], alloc: Global) -> Result<Vec<u8>, Wrong>
     ensures found { IfOk result (λ bytes. flat_map hex_byte bytes.items ≡ digits.now) }
     ensures small { IfOk result (λ bytes. AllByRecursion (λ byte. byte < 256) bytes.items) }
     ensures none { IfErr result (λ why. why ≢ Wrong.NoMemory
-        → (why ≡ SYNTAX) × ((bytes : List ℕ) → AllByRecursion (λ byte. byte < 256) bytes → flat_map hex_byte bytes ≢ digits.now)) }
+        → (why ≡ SYNTAX) × ((bytes : List ℕ) → AllByRecursion (λ byte. byte < 256) bytes
+        → flat_map hex_byte bytes ≢ digits.now)) }
 {
     let mut bytes = Vec::new(alloc);
     let mut rest = digits;
@@ -60,7 +61,8 @@ fn first_bytes(field: &[u8], alloc: Global) -> Result<Vec<u8>, Wrong>
     ensures found { IfOk result (λ bytes. hex_text bytes.items ≡ field.now) }
     ensures small { IfOk result (λ bytes. AllByRecursion (λ byte. byte < 256) bytes.items) }
     ensures none { IfErr result (λ why. why ≢ Wrong.NoMemory
-        → (why ≡ SYNTAX) × ((bytes : List ℕ) → AllByRecursion (λ byte. byte < 256) bytes → hex_text bytes ≢ field.now)) }
+        → (why ≡ SYNTAX) × ((bytes : List ℕ) → AllByRecursion (λ byte. byte < 256) bytes
+        → hex_text bytes ≢ field.now)) }
 {
     if field == b"-".as_slice() {
         return Ok(Vec::new(alloc));
@@ -81,11 +83,13 @@ fn fits(area: AreaLine, first: &[u8]) -> bool
 
 /// The line of a global, of at most so many bytes.
 fn global(lines: &mut Lines, left: u64, alloc: Global) -> Result<GlobalLine, Wrong>
-    ensures spelled { IfOk result (λ global. lines.old.text ≡ line_text (area_line global) ++ lines.new.text) }
+    ensures spelled { IfOk result (λ global. lines.old.text
+        ≡ line_text (area_line global) ++ lines.new.text) }
     ensures few { IfOk result (λ global. global.area.bytes ≤ left) }
     ensures kept { IfOk result (λ global. IsGlobalInRange global) }
     ensures read { IfOk result (λ global. (k : ℕ) (sigs : List AnySig) (nodes : ℕ) → 0 < k
-        → AreRead (MoreGlobals k left sigs nodes) lines.old (MoreGlobals (k - 1) (left - global.area.bytes) sigs nodes) lines.new) }
+        → AreRead (MoreGlobals k left sigs nodes) lines.old
+        (MoreGlobals (k - 1) (left - global.area.bytes) sigs nodes) lines.new) }
     ensures refused { IfErr result (λ why. (k : ℕ) (sigs : List AnySig) (nodes : ℕ) → 0 < k
         → IsRefused (MoreGlobals k left sigs nodes) lines.old why lines.new.number) }
 {
@@ -109,12 +113,15 @@ fn global(lines: &mut Lines, left: u64, alloc: Global) -> Result<GlobalLine, Wro
 
 /// The globals.
 pub(crate) fn globals(lines: &mut Lines, alloc: Global) -> Result<Vec<GlobalLine>, Wrong>
-    ensures spelled { IfOk result (λ globals. lines.old.text ≡ flat_map line_text (counted (codes "globals") area_line globals.items) ++ lines.new.text) }
+    ensures spelled { IfOk result (λ globals. lines.old.text ≡ flat_map line_text
+        (counted (codes "globals") area_line globals.items) ++ lines.new.text) }
     ensures few { IfOk result (λ globals. length globals.items ≤ flat_globals_limit) }
-    ensures bytes { IfOk result (λ globals. sum_by (λ g. g.area.bytes) globals.items ≤ global_bytes_limit) }
+    ensures bytes { IfOk result (λ globals. sum_by
+        (λ g. g.area.bytes) globals.items ≤ global_bytes_limit) }
     ensures kept { IfOk result (λ globals. All IsGlobalInRange globals.items) }
     ensures read { OnOk result ((sigs : List AnySig) (nodes : ℕ)
-        → (left : ℕ) × AreRead (MoreNodes 0 sigs nodes) lines.old (MoreGlobals 0 left sigs nodes) lines.new) }
+        → (left : ℕ) × AreRead (MoreNodes 0 sigs nodes) lines.old
+        (MoreGlobals 0 left sigs nodes) lines.new) }
     ensures refused { IfErr result (λ why. (sigs : List AnySig) (nodes : ℕ)
         → IsRefused (MoreNodes 0 sigs nodes) lines.old why lines.new.number) }
 {

@@ -47,7 +47,8 @@ fn whole(lines: &mut Lines, alloc: Global) -> Result<Cured, Wrong>
 
 /// The parts of a program, section by section.
 fn parts(lines: &mut Lines, alloc: Global) -> Result<Parts, Wrong>
-    ensures spelled { IfOk result (λ parts. lines.old.text ≡ flat_map line_text (program_lines parts) ++ lines.new.text) }
+    ensures spelled { IfOk result (λ parts. lines.old.text
+        ≡ flat_map line_text (program_lines parts) ++ lines.new.text) }
     ensures kept { IfOk result (λ parts. IsInRange parts) }
     ensures read { OnOk result (AreRead TheVersion lines.old Nothing lines.new) }
     ensures refused { IfErr result (λ why. IsRefused TheVersion lines.old why lines.new.number) }
@@ -88,7 +89,8 @@ fn named(heads: &[Head], alloc: Global) -> Result<Vec<Function>, Wrong>
 fn body(lines: &mut Lines, names: &Names, head: Head, alloc: Global) -> Result<Function, Wrong>
     requires few { IsFew names.now }
     requires areas { names.now.areas ≡ head.areas }
-    ensures spelled { IfOk result (λ f. lines.old.text ≡ flat_map line_text (body_lines f) ++ lines.new.text) }
+    ensures spelled { IfOk result (λ f. lines.old.text
+        ≡ flat_map line_text (body_lines f) ++ lines.new.text) }
     ensures head { IfOk result (λ f. function_line f ≡ head_line head) }
     ensures of { IfOk result (λ f. IsHeadOf f head) }
     ensures locals { IfOk result (λ f. All (λ area. area.bytes ≤ local_bytes_limit) f.locals) }
@@ -127,13 +129,17 @@ fn functions(
     requires sigs { length sigs.now ≤ sigs_limit }
     requires nodes { nodes ≤ nodes_limit }
     requires heads { AreHeadsKept sigs.now heads.now }
-    ensures spelled { IfOk result (λ fs. lines.old.text ≡ flat_map line_text (flat_map body_lines fs.items) ++ lines.new.text) }
+    ensures spelled { IfOk result (λ fs. lines.old.text ≡ flat_map line_text
+        (flat_map body_lines fs.items) ++ lines.new.text) }
     ensures heads { IfOk result (λ fs. map function_line fs.items ≡ map head_line heads.now) }
-    ensures kept { IfOk result (λ fs. All (IsFunctionInRange sigs.now (map (λ h. h.sig) heads.now) nodes) fs.items) }
+    ensures kept { IfOk result (λ fs. All (IsFunctionInRange sigs.now
+        (map (λ h. h.sig) heads.now) nodes) fs.items) }
     ensures sigs { IfOk result (λ fs. sigs_of fs.items ≡ map (λ h. h.sig) heads.now) }
-    ensures read { OnOk result (AreRead (bodies (map (names_of sigs.now nodes heads.now) heads.now)) lines.old Nothing lines.new) }
+    ensures read { OnOk result (AreRead (bodies (map (names_of sigs.now nodes heads.now) heads.now))
+        lines.old Nothing lines.new) }
     ensures refused { IfErr result (λ why.
-        IsRefused (bodies (map (names_of sigs.now nodes heads.now) heads.now)) lines.old why lines.new.number) }
+        IsRefused (bodies (map (names_of sigs.now nodes heads.now) heads.now)) lines.old why
+        lines.new.number) }
 {
     let named = named(heads, alloc)?;
     let mut functions = Vec::new(alloc);

@@ -53,10 +53,12 @@ pub(crate) fn expect(fields: &mut Fields, name: &[u8]) -> Result<(), Wrong>
 /// The line of a name and one number.
 fn number_line(lines: &mut Lines, name: &[u8]) -> Result<u64, Wrong>
     requires { IsName name.now }
-    ensures spelled { IfOk result (λ n. lines.old.text ≡ line_text (line name.now (n ∷ [])) ++ lines.new.text) }
+    ensures spelled { IfOk result (λ n. lines.old.text
+        ≡ line_text (line name.now (n ∷ [])) ++ lines.new.text) }
     ensures small { IfOk result (λ n. n < 2 ^ 64) }
     ensures counted { OnOk result (lines.new.number ≡ lines.old.number + 1) }
-    ensures misread { IfErr result (λ why. IsMisread (line_of_one name.now) lines.old why lines.new.number) }
+    ensures misread { IfErr result (λ why. IsMisread
+        (line_of_one name.now) lines.old why lines.new.number) }
 {
     let mut fields = lines.next()?;
     expect(&mut fields, name)?;
@@ -68,10 +70,12 @@ fn number_line(lines: &mut Lines, name: &[u8]) -> Result<u64, Wrong>
 /// The line of a name and two numbers.
 fn pair_line(lines: &mut Lines, name: &[u8]) -> Result<(u64, u64), Wrong>
     requires { IsName name.now }
-    ensures spelled { IfOk result (λ p. lines.old.text ≡ line_text (line name.now (p.0 ∷ p.1 ∷ [])) ++ lines.new.text) }
+    ensures spelled { IfOk result (λ p. lines.old.text
+        ≡ line_text (line name.now (p.0 ∷ p.1 ∷ [])) ++ lines.new.text) }
     ensures small { IfOk result (λ p. (p.0 < 2 ^ 64) × (p.1 < 2 ^ 64)) }
     ensures counted { OnOk result (lines.new.number ≡ lines.old.number + 1) }
-    ensures misread { IfErr result (λ why. IsMisread (line_of_two name.now) lines.old why lines.new.number) }
+    ensures misread { IfErr result (λ why. IsMisread
+        (line_of_two name.now) lines.old why lines.new.number) }
 {
     let mut fields = lines.next()?;
     expect(&mut fields, name)?;
@@ -88,11 +92,13 @@ pub(crate) fn count(
     limit: CuredLimit,
 ) -> Result<u64, Wrong>
     requires { IsName name.now }
-    ensures spelled { IfOk result (λ n. lines.old.text ≡ line_text (line name.now (n ∷ [])) ++ lines.new.text) }
+    ensures spelled { IfOk result (λ n. lines.old.text
+        ≡ line_text (line name.now (n ∷ [])) ++ lines.new.text) }
     ensures small { IfOk result (λ n. n < 2 ^ 64) }
     ensures few { IfOk result (λ n. n ≤ most) }
     ensures counted { OnOk result (lines.new.number ≡ lines.old.number + 1) }
-    ensures refused { IfErr result (λ why. IsMiscounted name.now most limit lines.old why lines.new.number) }
+    ensures refused { IfErr result (λ why. IsMiscounted name.now most limit lines.old why
+        lines.new.number) }
 {
     let n = number_line(lines, name)?;
     if n <= most {
@@ -104,7 +110,8 @@ pub(crate) fn count(
 
 /// The first line, with the version.
 pub(crate) fn version(lines: &mut Lines) -> Result<(), Wrong>
-    ensures spelled { OnOk result (lines.old.text ≡ line_text (line (codes "ccured") (1 ∷ [])) ++ lines.new.text) }
+    ensures spelled { OnOk result (lines.old.text ≡ line_text
+        (line (codes "ccured") (1 ∷ [])) ++ lines.new.text) }
     ensures read { OnOk result (AreRead TheVersion lines.old TheSigs lines.new) }
     ensures refused { IfErr result (λ why. IsRefused TheVersion lines.old why lines.new.number) }
 {
@@ -117,7 +124,8 @@ pub(crate) fn version(lines: &mut Lines) -> Result<(), Wrong>
 }
 
 fn sig(lines: &mut Lines) -> Result<Sig, Wrong>
-    ensures spelled { IfOk result (λ sig. lines.old.text ≡ line_text (sig_line sig) ++ lines.new.text) }
+    ensures spelled { IfOk result (λ sig. lines.old.text
+        ≡ line_text (sig_line sig) ++ lines.new.text) }
     ensures kept { IfOk result IsSigInRange }
     ensures read { IfOk result (λ sig. (k : ℕ) (sigs : List AnySig) → 0 < k
         → AreRead (MoreSigs k sigs) lines.old (MoreSigs (k - 1) (sigs ++ (sig ∷ []))) lines.new) }
@@ -139,10 +147,12 @@ fn sig(lines: &mut Lines) -> Result<Sig, Wrong>
 
 /// The signatures.
 pub(crate) fn sigs(lines: &mut Lines, alloc: Global) -> Result<Vec<Sig>, Wrong>
-    ensures spelled { IfOk result (λ sigs. lines.old.text ≡ flat_map line_text (counted (codes "sigs") sig_line sigs.items) ++ lines.new.text) }
+    ensures spelled { IfOk result (λ sigs. lines.old.text ≡ flat_map line_text
+        (counted (codes "sigs") sig_line sigs.items) ++ lines.new.text) }
     ensures few { IfOk result (λ sigs. length sigs.items ≤ sigs_limit) }
     ensures kept { IfOk result (λ sigs. All IsSigInRange sigs.items) }
-    ensures read { IfOk result (λ sigs. AreRead TheSigs lines.old (MoreSigs 0 sigs.items) lines.new) }
+    ensures read { IfOk result (λ sigs. AreRead TheSigs lines.old
+        (MoreSigs 0 sigs.items) lines.new) }
     ensures refused { IfErr result (λ why. IsRefused TheSigs lines.old why lines.new.number) }
 {
     let n = count(lines, b"sigs", 65_536, CuredLimit::Sigs)?;
@@ -156,10 +166,12 @@ pub(crate) fn sigs(lines: &mut Lines, alloc: Global) -> Result<Vec<Sig>, Wrong>
 /// The parent of the next node, which is an earlier one.
 fn node(lines: &mut Lines, before: u64) -> Result<u32, Wrong>
     requires { before < nodes_limit }
-    ensures spelled { IfOk result (λ parent. lines.old.text ≡ line_text (node_line parent) ++ lines.new.text) }
+    ensures spelled { IfOk result (λ parent. lines.old.text
+        ≡ line_text (node_line parent) ++ lines.new.text) }
     ensures kept { IfOk result (λ parent. parent ≤ before) }
     ensures read { OnOk result ((k : ℕ) (sigs : List AnySig) → 0 < k
-        → AreRead (MoreNodes k sigs before) lines.old (MoreNodes (k - 1) sigs (before + 1)) lines.new) }
+        → AreRead (MoreNodes k sigs before) lines.old
+        (MoreNodes (k - 1) sigs (before + 1)) lines.new) }
     ensures refused { IfErr result (λ why. (k : ℕ) (sigs : List AnySig) → 0 < k
         → IsRefused (MoreNodes k sigs before) lines.old why lines.new.number) }
 {
@@ -172,12 +184,14 @@ fn node(lines: &mut Lines, before: u64) -> Result<u32, Wrong>
 
 /// The parents of the type nodes.
 pub(crate) fn nodes(lines: &mut Lines, alloc: Global) -> Result<Vec<u32>, Wrong>
-    ensures spelled { IfOk result (λ nodes. lines.old.text ≡ flat_map line_text (counted (codes "nodes") node_line nodes.items) ++ lines.new.text) }
+    ensures spelled { IfOk result (λ nodes. lines.old.text ≡ flat_map line_text
+        (counted (codes "nodes") node_line nodes.items) ++ lines.new.text) }
     ensures few { IfOk result (λ nodes. length nodes.items ≤ nodes_limit) }
     ensures kept { IfOk result (λ nodes. AreParentsEarlier nodes.items) }
     ensures read { IfOk result (λ nodes. (sigs : List AnySig)
         → AreRead (MoreSigs 0 sigs) lines.old (MoreNodes 0 sigs (length nodes.items)) lines.new) }
-    ensures refused { IfErr result (λ why. (sigs : List AnySig) → IsRefused (MoreSigs 0 sigs) lines.old why lines.new.number) }
+    ensures refused { IfErr result (λ why. (sigs : List AnySig)
+        → IsRefused (MoreSigs 0 sigs) lines.old why lines.new.number) }
 {
     let n = count(lines, b"nodes", 65_536, CuredLimit::Nodes)?;
     let mut nodes = Vec::new(alloc);
@@ -189,7 +203,8 @@ pub(crate) fn nodes(lines: &mut Lines, alloc: Global) -> Result<Vec<u32>, Wrong>
 
 /// An area, of the letter and the bytes that come next.
 pub(crate) fn area(fields: &mut Fields) -> Result<AreaLine, Wrong>
-    ensures cut { IfOk result (λ area. fields.old ≡ fields_text (Tag area.tagged ∷ Number area.bytes ∷ []) ++ fields.new) }
+    ensures cut { IfOk result (λ area. fields.old ≡ fields_text
+        (Tag area.tagged ∷ Number area.bytes ∷ []) ++ fields.new) }
     ensures small { IfOk result (λ area. area.bytes < 2 ^ 64) }
     ensures ends { OnOk result (EndsWord fields.new) }
     ensures none { IfErr result (λ why. (why ≡ SYNTAX) × LacksFields area_fields fields.old) }
@@ -204,7 +219,8 @@ pub(crate) fn area(fields: &mut Fields) -> Result<AreaLine, Wrong>
 
 /// An area of a frame.
 fn local(lines: &mut Lines) -> Result<AreaLine, Wrong>
-    ensures spelled { IfOk result (λ area. lines.old.text ≡ line_text (local_line area) ++ lines.new.text) }
+    ensures spelled { IfOk result (λ area. lines.old.text
+        ≡ line_text (local_line area) ++ lines.new.text) }
     ensures kept { IfOk result (λ area. area.bytes ≤ local_bytes_limit) }
     ensures read { OnOk result ((k : ℕ) (part : Part) (rest : List Names) → 0 < k
         → AreRead (InBody k part [] rest) lines.old (InBody (k - 1) part [] rest) lines.new) }
@@ -223,7 +239,8 @@ fn local(lines: &mut Lines) -> Result<AreaLine, Wrong>
 
 /// The areas of a frame.
 pub(crate) fn locals(lines: &mut Lines, n: usize, alloc: Global) -> Result<Vec<AreaLine>, Wrong>
-    ensures spelled { IfOk result (λ areas. lines.old.text ≡ flat_map line_text (map local_line areas.items) ++ lines.new.text) }
+    ensures spelled { IfOk result (λ areas. lines.old.text
+        ≡ flat_map line_text (map local_line areas.items) ++ lines.new.text) }
     ensures many { IfOk result (λ areas. length areas.items ≡ n) }
     ensures kept { IfOk result (λ areas. All (λ area. area.bytes ≤ local_bytes_limit) areas.items) }
     ensures read { OnOk result ((part : Part) (rest : List Names)
@@ -242,7 +259,8 @@ pub(crate) fn locals(lines: &mut Lines, n: usize, alloc: Global) -> Result<Vec<A
 fn head_fields(lines: &mut Lines) -> Result<(u64, u64, u64, u64), Wrong>
     ensures spelled { IfOk result (λ h. lines.old.text
         ≡ line_text (line (codes "fn") (h.0 ∷ h.1 ∷ h.2 ∷ h.3 ∷ [])) ++ lines.new.text) }
-    ensures small { IfOk result (λ h. (h.0 < 2 ^ 64) × (h.1 < 2 ^ 64) × (h.2 < 2 ^ 64) × (h.3 < 2 ^ 64)) }
+    ensures small { IfOk result (λ h. (h.0 < 2 ^ 64) × (h.1 < 2 ^ 64) × (h.2 < 2 ^ 64)
+        × (h.3 < 2 ^ 64)) }
     ensures counted { OnOk result (lines.new.number ≡ lines.old.number + 1) }
     ensures misread { IfErr result (λ why. IsMisread head_line lines.old why lines.new.number) }
 {
@@ -257,11 +275,15 @@ fn head_fields(lines: &mut Lines) -> Result<(u64, u64, u64, u64), Wrong>
 /// The line of a function, after so many others. The first takes and gives nothing.
 fn function_head(lines: &mut Lines, sigs: &[Sig], before: u64) -> Result<Head, Wrong>
     requires { length sigs.now ≤ sigs_limit }
-    ensures spelled { IfOk result (λ head. lines.old.text ≡ line_text (head_line head) ++ lines.new.text) }
+    ensures spelled { IfOk result (λ head. lines.old.text
+        ≡ line_text (head_line head) ++ lines.new.text) }
     ensures kept { IfOk result (λ head. IsHeadKept sigs.now before head) }
-    ensures read { IfOk result (λ head. (k nodes : ℕ) (heads : List AnyHead) → 0 < k → length heads ≡ before
-        → AreRead (MoreFunctions k sigs.now nodes heads) lines.old (functions_left (k - 1) sigs.now nodes (heads ++ (head ∷ []))) lines.new) }
-    ensures refused { IfErr result (λ why. (k nodes : ℕ) (heads : List AnyHead) → 0 < k → length heads ≡ before
+    ensures read { IfOk result (λ head. (k nodes : ℕ) (heads : List AnyHead) → 0 < k → length heads
+        ≡ before
+        → AreRead (MoreFunctions k sigs.now nodes heads) lines.old
+        (functions_left (k - 1) sigs.now nodes (heads ++ (head ∷ []))) lines.new) }
+    ensures refused { IfErr result (λ why. (k nodes : ℕ) (heads : List AnyHead) → 0 < k
+        → length heads ≡ before
         → IsRefused (MoreFunctions k sigs.now nodes heads) lines.old why lines.new.number) }
 {
     let (number, width, charge, areas) = head_fields(lines)?;
@@ -301,10 +323,12 @@ fn has_sig(head: Head, sigs: &[Sig], before: u64) -> bool
 /// The lines of the functions, of which there is one at least.
 pub(crate) fn heads(lines: &mut Lines, sigs: &[Sig], alloc: Global) -> Result<Vec<Head>, Wrong>
     requires { length sigs.now ≤ sigs_limit }
-    ensures spelled { IfOk result (λ heads. lines.old.text ≡ flat_map line_text (counted (codes "functions") head_line heads.items) ++ lines.new.text) }
+    ensures spelled { IfOk result (λ heads. lines.old.text ≡ flat_map line_text
+        (counted (codes "functions") head_line heads.items) ++ lines.new.text) }
     ensures kept { IfOk result (λ heads. AreHeadsKept sigs.now heads.items) }
     ensures read { IfOk result (λ heads. (left nodes : ℕ)
-        → AreRead (MoreGlobals 0 left sigs.now nodes) lines.old (functions_left 0 sigs.now nodes heads.items) lines.new) }
+        → AreRead (MoreGlobals 0 left sigs.now nodes) lines.old
+        (functions_left 0 sigs.now nodes heads.items) lines.new) }
     ensures refused { IfErr result (λ why. (left nodes : ℕ)
         → IsRefused (MoreGlobals 0 left sigs.now nodes) lines.old why lines.new.number) }
 {

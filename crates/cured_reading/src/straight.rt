@@ -19,7 +19,8 @@ use cured_code::{Instr, Names, is_instr_in_range};
 
 /// The next two fields, numbers.
 pub(crate) fn two(fields: &mut Fields) -> Result<(u64, u64), Wrong>
-    ensures cut { IfOk result (λ p. fields.old ≡ 32 ∷ (decimal p.0 ++ (32 ∷ (decimal p.1 ++ fields.new)))) }
+    ensures cut { IfOk result (λ p. fields.old ≡ 32 ∷
+        (decimal p.0 ++ (32 ∷ (decimal p.1 ++ fields.new)))) }
     ensures small { IfOk result (λ p. (p.0 < 2 ^ 64) × (p.1 < 2 ^ 64)) }
     ensures ends { OnOk result (EndsWord fields.new) }
     ensures none { IfErr result (λ why. (why ≡ SYNTAX) × LacksFields two_numbers fields.old) }
@@ -31,7 +32,8 @@ pub(crate) fn two(fields: &mut Fields) -> Result<(u64, u64), Wrong>
 
 /// The next three fields, numbers.
 fn three(fields: &mut Fields) -> Result<(u64, u64, u64), Wrong>
-    ensures cut { IfOk result (λ t. fields.old ≡ 32 ∷ (decimal t.0 ++ (32 ∷ (decimal t.1 ++ (32 ∷ (decimal t.2 ++ fields.new)))))) }
+    ensures cut { IfOk result (λ t. fields.old ≡ 32 ∷ (decimal t.0 ++
+        (32 ∷ (decimal t.1 ++ (32 ∷ (decimal t.2 ++ fields.new)))))) }
     ensures small { IfOk result (λ t. (t.0 < 2 ^ 64) × (t.1 < 2 ^ 64) × (t.2 < 2 ^ 64)) }
     ensures ends { OnOk result (EndsWord fields.new) }
     ensures none { IfErr result (λ why. (why ≡ SYNTAX) × LacksFields three_numbers fields.old) }
@@ -43,11 +45,13 @@ fn three(fields: &mut Fields) -> Result<(u64, u64, u64), Wrong>
 
 /// The numbers of a format's fields.
 fn wide(format: Format, fields: &mut Fields) -> Result<Wide, Wrong>
-    ensures cut { IfOk result (λ wide. fields.old ≡ fields_text (map Number (wide_numbers_of format wide)) ++ fields.new) }
+    ensures cut { IfOk result (λ wide. fields.old ≡ fields_text
+        (map Number (wide_numbers_of format wide)) ++ fields.new) }
     ensures small { IfOk result (λ wide. AreFieldsInRange (wide_fields format wide)) }
     ensures padded { IfOk result (λ wide. IsPadded format wide) }
     ensures ends { OnOk result (EndsWord fields.new) }
-    ensures none { IfErr result (λ why. (why ≡ SYNTAX) × LacksFields (wide_fields format) fields.old) }
+    ensures none { IfErr result (λ why. (why ≡ SYNTAX)
+        × LacksFields (wide_fields format) fields.old) }
 {
     let mut of = Wide {
         a: 0,
@@ -93,7 +97,8 @@ pub(crate) fn low(n: u64) -> Result<u32, Wrong>
 
 /// The operands, where each number fits its place.
 fn operands(wide: Wide) -> Result<Operands, Wrong>
-    ensures same { IfOk result (λ of. (of.a ≡ wide.a) × (of.b ≡ wide.b) × (of.c ≡ wide.c) × (of.d ≡ wide.d) × (of.n ≡ wide.n)) }
+    ensures same { IfOk result (λ of. (of.a ≡ wide.a) × (of.b ≡ wide.b) × (of.c ≡ wide.c)
+        × (of.d ≡ wide.d) × (of.n ≡ wide.n)) }
     ensures over { IfErr result (λ why. (why ≡ RANGE)
         × (wide.a < 2 ^ 32 → wide.b < 2 ^ 32 → wide.c < 2 ^ 32 → wide.d < 2 ^ 32 → ⊥)) }
 {
@@ -112,9 +117,12 @@ fn operands(wide: Wide) -> Result<Operands, Wrong>
 
 /// The instruction of an operation and its fields.
 fn operation(of: Operation, fields: &mut Fields) -> Result<Instr, Wrong>
-    ensures spelled { IfOk result (λ i. operation_name of ++ (fields.old ++ (10 ∷ [])) ≡ flat_map line_text (lines_of i)) }
-    ensures line { IfOk result (λ i. IsLineOf i (operation_name of) fields.old × IsPlaceKept (line_of i).fields) }
-    ensures bad { IfErr result (λ why. (names : Scope) → IsFew names → IsBadLine names (operation_name of) fields.old why) }
+    ensures spelled { IfOk result (λ i. operation_name of ++ (fields.old ++ (10 ∷ []))
+        ≡ flat_map line_text (lines_of i)) }
+    ensures line { IfOk result (λ i. IsLineOf i (operation_name of) fields.old
+        × IsPlaceKept (line_of i).fields) }
+    ensures bad { IfErr result (λ why. (names : Scope) → IsFew names
+        → IsBadLine names (operation_name of) fields.old why) }
 {
     let wide = wide(of.format(), fields)?;
     fields.end()?;
@@ -124,9 +132,12 @@ fn operation(of: Operation, fields: &mut Fields) -> Result<Instr, Wrong>
 
 /// The fields of an `ext`.
 fn extension(fields: &mut Fields) -> Result<Instr, Wrong>
-    ensures spelled { IfOk result (λ i. codes "ext" ++ (fields.old ++ (10 ∷ [])) ≡ flat_map line_text (lines_of i)) }
-    ensures line { IfOk result (λ i. IsLineOf i (codes "ext") fields.old × IsPlaceKept (line_of i).fields) }
-    ensures bad { IfErr result (λ why. (names : Scope) → IsFew names → IsBadLine names (codes "ext") fields.old why) }
+    ensures spelled { IfOk result (λ i. codes "ext" ++ (fields.old ++ (10 ∷ []))
+        ≡ flat_map line_text (lines_of i)) }
+    ensures line { IfOk result (λ i. IsLineOf i (codes "ext") fields.old
+        × IsPlaceKept (line_of i).fields) }
+    ensures bad { IfErr result (λ why. (names : Scope) → IsFew names
+        → IsBadLine names (codes "ext") fields.old why) }
 {
     let (v, a) = two(fields)?;
     let word = fields.field()?;
@@ -141,9 +152,12 @@ fn extension(fields: &mut Fields) -> Result<Instr, Wrong>
 
 /// The fields of a `new`.
 fn block(fields: &mut Fields) -> Result<Instr, Wrong>
-    ensures spelled { IfOk result (λ i. codes "new" ++ (fields.old ++ (10 ∷ [])) ≡ flat_map line_text (lines_of i)) }
-    ensures line { IfOk result (λ i. IsLineOf i (codes "new") fields.old × IsPlaceKept (line_of i).fields) }
-    ensures bad { IfErr result (λ why. (names : Scope) → IsFew names → IsBadLine names (codes "new") fields.old why) }
+    ensures spelled { IfOk result (λ i. codes "new" ++ (fields.old ++ (10 ∷ []))
+        ≡ flat_map line_text (lines_of i)) }
+    ensures line { IfOk result (λ i. IsLineOf i (codes "new") fields.old
+        × IsPlaceKept (line_of i).fields) }
+    ensures bad { IfErr result (λ why. (names : Scope) → IsFew names
+        → IsBadLine names (codes "new") fields.old why) }
 {
     let letter = fields.field()?;
     let Some(tagged) = tag_of(letter) else {
@@ -159,9 +173,12 @@ fn block(fields: &mut Fields) -> Result<Instr, Wrong>
 
 /// The fields of a `check`.
 fn check(fields: &mut Fields) -> Result<Instr, Wrong>
-    ensures spelled { IfOk result (λ i. codes "check" ++ (fields.old ++ (10 ∷ [])) ≡ flat_map line_text (lines_of i)) }
-    ensures line { IfOk result (λ i. IsLineOf i (codes "check") fields.old × IsPlaceKept (line_of i).fields) }
-    ensures bad { IfErr result (λ why. (names : Scope) → IsFew names → IsBadLine names (codes "check") fields.old why) }
+    ensures spelled { IfOk result (λ i. codes "check" ++ (fields.old ++ (10 ∷ []))
+        ≡ flat_map line_text (lines_of i)) }
+    ensures line { IfOk result (λ i. IsLineOf i (codes "check") fields.old
+        × IsPlaceKept (line_of i).fields) }
+    ensures bad { IfErr result (λ why. (names : Scope) → IsFew names
+        → IsBadLine names (codes "check") fields.old why) }
 {
     let word = fields.field()?;
     let Some(check) = check_of(word) else {
@@ -197,9 +214,12 @@ fn wording_of(name: &[u8]) -> Wording
 
 /// Any of these, by its name.
 fn named(name: &[u8], fields: &mut Fields) -> Result<Instr, Wrong>
-    ensures spelled { IfOk result (λ i. name.now ++ (fields.old ++ (10 ∷ [])) ≡ flat_map line_text (lines_of i)) }
-    ensures line { IfOk result (λ i. IsLineOf i name.now fields.old × IsPlaceKept (line_of i).fields) }
-    ensures bad { IfErr result (λ why. (names : Scope) → IsFew names → IsBadLine names name.now fields.old why) }
+    ensures spelled { IfOk result (λ i. name.now ++ (fields.old ++ (10 ∷ []))
+        ≡ flat_map line_text (lines_of i)) }
+    ensures line { IfOk result (λ i. IsLineOf i name.now fields.old
+        × IsPlaceKept (line_of i).fields) }
+    ensures bad { IfErr result (λ why. (names : Scope) → IsFew names
+        → IsBadLine names name.now fields.old why) }
 {
     match wording_of(name) {
         Wording::Ext => extension(fields),
@@ -227,8 +247,10 @@ fn in_range(names: &Names, instr: Instr) -> Result<Instr, Wrong>
 /// An instruction that holds no others, from its name and its fields.
 pub(crate) fn straight(names: &Names, name: &[u8], fields: &mut Fields) -> Result<Instr, Wrong>
     requires { IsFew names.now }
-    ensures spelled { IfOk result (λ i. name.now ++ (fields.old ++ (10 ∷ [])) ≡ flat_map line_text (lines_of i)) }
-    ensures line { IfOk result (λ i. IsLineOf i name.now fields.old × IsPlaceKept (line_of i).fields) }
+    ensures spelled { IfOk result (λ i. name.now ++ (fields.old ++ (10 ∷ []))
+        ≡ flat_map line_text (lines_of i)) }
+    ensures line { IfOk result (λ i. IsLineOf i name.now fields.old
+        × IsPlaceKept (line_of i).fields) }
     ensures kept { IfOk result (λ i. IsInstrInRange names.now i) }
     ensures bad { IfErr result (λ why. IsBadLine names.now name.now fields.old why) }
 {

@@ -75,7 +75,8 @@ pub(crate) fn tag_of(letter: &[u8]) -> Option<bool>
 /// The operation that has this name.
 pub(crate) fn operation_of(name: &[u8]) -> Option<Operation>
     ensures found { IfSome result (λ operation. operation_name operation ≡ name.now) }
-    ensures none { IfNone result (All (λ operation. operation_name operation ≢ name.now) OPERATIONS) }
+    ensures none { IfNone result (All (λ operation. operation_name operation ≢ name.now)
+        OPERATIONS) }
 {
     operation_among(&OPERATIONS, name)
 }
@@ -83,7 +84,8 @@ pub(crate) fn operation_of(name: &[u8]) -> Option<Operation>
 /// That of these which has this name.
 fn operation_among(operations: &[Operation], name: &[u8]) -> Option<Operation>
     ensures found { IfSome result (λ operation. operation_name operation ≡ name.now) }
-    ensures none { IfNone result (All (λ operation. operation_name operation ≢ name.now) operations.now) }
+    ensures none { IfNone result (All (λ operation. operation_name operation ≢ name.now)
+        operations.now) }
 {
     operations
         .iter()

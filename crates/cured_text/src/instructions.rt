@@ -11,7 +11,8 @@ use cured_spelling::{form_name, tag_letter};
 
 /// Adds the line of an `ext`.
 fn put_extension(out: &mut Vec<u8>, v: u32, a: u32, form: Narrow) -> Result<(), NoMemory>
-    ensures { OnOk result (out.new.items ≡ out.old.items ++ line_text (line_of (instr.Ext v a form))) }
+    ensures { OnOk result (out.new.items ≡ out.old.items ++ line_text
+        (line_of (instr.Ext v a form))) }
 {
     put_front(out, b"ext", &[v, a])?;
     put_word(out, form_name(form))?;
@@ -21,7 +22,8 @@ fn put_extension(out: &mut Vec<u8>, v: u32, a: u32, form: Narrow) -> Result<(), 
 
 /// Adds the line of a `new`.
 fn put_block_line(out: &mut Vec<u8>, tagged: bool, slots: [u32; 3]) -> Result<(), NoMemory>
-    ensures { OnOk result (out.new.items ≡ out.old.items ++ (codes "new" ++ (32 ∷ (tag_text tagged ++ line_text (line [] slots))))) }
+    ensures { OnOk result (out.new.items ≡ out.old.items ++
+        (codes "new" ++ (32 ∷ (tag_text tagged ++ line_text (line [] slots))))) }
 {
     out.extend_from_slice(b"new")?;
     put_word(out, tag_letter(tagged))?;
@@ -30,7 +32,8 @@ fn put_block_line(out: &mut Vec<u8>, tagged: bool, slots: [u32; 3]) -> Result<()
 
 /// Adds the line of a `check`.
 fn put_check(out: &mut Vec<u8>, check: Check, place: Place, a: u32) -> Result<(), NoMemory>
-    ensures { OnOk result (out.new.items ≡ out.old.items ++ line_text (line_of (instr.Check check place a))) }
+    ensures { OnOk result (out.new.items ≡ out.old.items ++ line_text
+        (line_of (instr.Check check place a))) }
 {
     out.extend_from_slice(b"check")?;
     put_word(out, check.name().as_bytes())?;
@@ -40,7 +43,8 @@ fn put_check(out: &mut Vec<u8>, check: Check, place: Place, a: u32) -> Result<()
 /// Adds the lines of an instruction, with those that it holds.
 #[cycle(writing)]
 fn put_instr(out: &mut Vec<u8>, instr: &Instr) -> Result<(), NoMemory>
-    ensures { OnOk result (out.new.items ≡ out.old.items ++ flat_map line_text (lines_of instr.now)) }
+    ensures { OnOk result (out.new.items ≡ out.old.items ++ flat_map line_text
+        (lines_of instr.now)) }
 {
     match instr {
         Instr::Const(v, n) => put_long_line(out, b"const", &[*v], *n),
@@ -115,7 +119,8 @@ fn put_instr(out: &mut Vec<u8>, instr: &Instr) -> Result<(), NoMemory>
 /// Adds the lines of instructions.
 #[cycle(writing)]
 pub(crate) fn put_code(out: &mut Vec<u8>, instrs: &[Instr]) -> Result<(), NoMemory>
-    ensures { OnOk result (out.new.items ≡ out.old.items ++ flat_map line_text (code_lines instrs.now)) }
+    ensures { OnOk result (out.new.items ≡ out.old.items ++ flat_map line_text
+        (code_lines instrs.now)) }
 {
     for instr in instrs {
         put_instr(out, instr)?;

@@ -27,7 +27,8 @@ pub(crate) fn put_word(out: &mut Vec<u8>, word: &[u8]) -> Result<(), NoMemory>
 
 /// Adds a name and numbers, without the line feed.
 pub(crate) fn put_front(out: &mut Vec<u8>, name: &[u8], numbers: &[u32]) -> Result<(), NoMemory>
-    ensures { OnOk result (out.new.items ≡ out.old.items ++ (name.now ++ fields_text (map Number numbers.now))) }
+    ensures { OnOk result (out.new.items ≡ out.old.items ++
+        (name.now ++ fields_text (map Number numbers.now))) }
 {
     out.extend_from_slice(name)?;
     for n in numbers {
@@ -52,7 +53,8 @@ pub(crate) fn put_long_line(
     numbers: &[u32],
     last: u64,
 ) -> Result<(), NoMemory>
-    ensures { OnOk result (out.new.items ≡ out.old.items ++ line_text (line name.now (numbers.now ++ (last ∷ [])))) }
+    ensures { OnOk result (out.new.items ≡ out.old.items ++ line_text
+        (line name.now (numbers.now ++ (last ∷ [])))) }
 {
     put_front(out, name, numbers)?;
     put_number(out, last)?;
@@ -67,7 +69,8 @@ pub(crate) fn put_access(
     bytes: u64,
     slots: [u32; 2],
 ) -> Result<(), NoMemory>
-    ensures { OnOk result (out.new.items ≡ out.old.items ++ line_text (line name.now (bytes ∷ slots))) }
+    ensures { OnOk result (out.new.items ≡ out.old.items ++ line_text
+        (line name.now (bytes ∷ slots))) }
 {
     out.extend_from_slice(name)?;
     put_number(out, bytes)?;

@@ -36,7 +36,8 @@ fn put_parts(
     globals: &[GlobalLine],
     functions: &[Function],
 ) -> Result<(), NoMemory>
-    ensures { OnOk result (out.new.items ≡ out.old.items ++ flat_map line_text (parts_lines sigs.now parents.now globals.now functions.now)) }
+    ensures { OnOk result (out.new.items ≡ out.old.items ++ flat_map line_text
+        (parts_lines sigs.now parents.now globals.now functions.now)) }
 {
     put_line(out, b"ccured", &[1])?;
     put_sigs(out, sigs)?;
@@ -48,7 +49,8 @@ fn put_parts(
 
 /// Adds a line with a count.
 fn put_count(out: &mut Vec<u8>, name: &[u8], count: usize) -> Result<(), NoMemory>
-    ensures { OnOk result (out.new.items ≡ out.old.items ++ line_text (line name.now (count ∷ []))) }
+    ensures { OnOk result (out.new.items ≡ out.old.items ++ line_text
+        (line name.now (count ∷ []))) }
 {
     out.extend_from_slice(name)?;
     put_number(out, count as u64)?;
@@ -57,7 +59,8 @@ fn put_count(out: &mut Vec<u8>, name: &[u8], count: usize) -> Result<(), NoMemor
 }
 
 fn put_sigs(out: &mut Vec<u8>, sigs: &[Sig]) -> Result<(), NoMemory>
-    ensures { OnOk result (out.new.items ≡ out.old.items ++ flat_map line_text (counted (codes "sigs") sig_line sigs.now)) }
+    ensures { OnOk result (out.new.items ≡ out.old.items ++ flat_map line_text
+        (counted (codes "sigs") sig_line sigs.now)) }
 {
     put_count(out, b"sigs", sigs.len())?;
     for sig in sigs {
@@ -67,7 +70,8 @@ fn put_sigs(out: &mut Vec<u8>, sigs: &[Sig]) -> Result<(), NoMemory>
 }
 
 fn put_nodes(out: &mut Vec<u8>, parents: &[u32]) -> Result<(), NoMemory>
-    ensures { OnOk result (out.new.items ≡ out.old.items ++ flat_map line_text (counted (codes "nodes") node_line parents.now)) }
+    ensures { OnOk result (out.new.items ≡ out.old.items ++ flat_map line_text
+        (counted (codes "nodes") node_line parents.now)) }
 {
     put_count(out, b"nodes", parents.len())?;
     for parent in parents {
@@ -100,7 +104,8 @@ fn put_first(out: &mut Vec<u8>, bytes: &[u8]) -> Result<(), NoMemory>
 
 /// Adds a name, an area's letter and its bytes.
 fn put_area(out: &mut Vec<u8>, name: &[u8], area: AreaLine) -> Result<(), NoMemory>
-    ensures { OnOk result (out.new.items ≡ out.old.items ++ (name.now ++ fields_text (Tag area.tagged ∷ Number area.bytes ∷ []))) }
+    ensures { OnOk result (out.new.items ≡ out.old.items ++
+        (name.now ++ fields_text (Tag area.tagged ∷ Number area.bytes ∷ []))) }
 {
     out.extend_from_slice(name)?;
     put_word(out, tag_letter(area.tagged))?;
@@ -118,7 +123,8 @@ fn put_global(out: &mut Vec<u8>, global: &GlobalLine) -> Result<(), NoMemory>
 }
 
 fn put_globals(out: &mut Vec<u8>, globals: &[GlobalLine]) -> Result<(), NoMemory>
-    ensures { OnOk result (out.new.items ≡ out.old.items ++ flat_map line_text (counted (codes "globals") area_line globals.now)) }
+    ensures { OnOk result (out.new.items ≡ out.old.items ++ flat_map line_text
+        (counted (codes "globals") area_line globals.now)) }
 {
     put_count(out, b"globals", globals.len())?;
     for global in globals {
@@ -128,7 +134,8 @@ fn put_globals(out: &mut Vec<u8>, globals: &[GlobalLine]) -> Result<(), NoMemory
 }
 
 fn put_function(out: &mut Vec<u8>, function: &Function) -> Result<(), NoMemory>
-    ensures { OnOk result (out.new.items ≡ out.old.items ++ line_text (function_line function.now)) }
+    ensures { OnOk result (out.new.items ≡ out.old.items ++ line_text
+        (function_line function.now)) }
 {
     let locals = &function.locals;
     put_front(out, b"fn", &[function.sig, function.slots])?;
@@ -139,7 +146,8 @@ fn put_function(out: &mut Vec<u8>, function: &Function) -> Result<(), NoMemory>
 }
 
 fn put_functions(out: &mut Vec<u8>, functions: &[Function]) -> Result<(), NoMemory>
-    ensures { OnOk result (out.new.items ≡ out.old.items ++ flat_map line_text (counted (codes "functions") function_line functions.now)) }
+    ensures { OnOk result (out.new.items ≡ out.old.items ++ flat_map line_text
+        (counted (codes "functions") function_line functions.now)) }
 {
     put_count(out, b"functions", functions.len())?;
     for function in functions {
@@ -149,7 +157,8 @@ fn put_functions(out: &mut Vec<u8>, functions: &[Function]) -> Result<(), NoMemo
 }
 
 fn put_locals(out: &mut Vec<u8>, locals: &[AreaLine]) -> Result<(), NoMemory>
-    ensures { OnOk result (out.new.items ≡ out.old.items ++ flat_map line_text (map local_line locals.now)) }
+    ensures { OnOk result (out.new.items ≡ out.old.items ++ flat_map line_text
+        (map local_line locals.now)) }
 {
     for area in locals {
         put_area(out, b"local", *area)?;
@@ -160,7 +169,8 @@ fn put_locals(out: &mut Vec<u8>, locals: &[AreaLine]) -> Result<(), NoMemory>
 
 /// Adds the areas of a function's frame, its instructions and its end.
 fn put_body(out: &mut Vec<u8>, function: &Function) -> Result<(), NoMemory>
-    ensures { OnOk result (out.new.items ≡ out.old.items ++ flat_map line_text (body_lines function.now)) }
+    ensures { OnOk result (out.new.items ≡ out.old.items ++ flat_map line_text
+        (body_lines function.now)) }
 {
     let locals = &function.locals;
     put_locals(out, &locals.0)?;
@@ -169,7 +179,8 @@ fn put_body(out: &mut Vec<u8>, function: &Function) -> Result<(), NoMemory>
 }
 
 fn put_bodies(out: &mut Vec<u8>, functions: &[Function]) -> Result<(), NoMemory>
-    ensures { OnOk result (out.new.items ≡ out.old.items ++ flat_map line_text (flat_map body_lines functions.now)) }
+    ensures { OnOk result (out.new.items ≡ out.old.items ++ flat_map line_text
+        (flat_map body_lines functions.now)) }
 {
     for function in functions {
         put_body(out, function)?;

@@ -96,7 +96,8 @@ impl<'a> Layouts<'a> {
     pub fn cured_offset(&self, t: TypeId, offset: u64) -> u64
         requires complete { IsComplete self.now.table t }
         requires within { offset ≤ size_of self.now.table t }
-        ensures { IsBetweenPointers (cells_of self.now.table t) offset → result ≡ before (kind_at self.now.kinds) (cells_of self.now.table t) offset }
+        ensures { IsBetweenPointers (cells_of self.now.table t) offset → result
+            ≡ before (kind_at self.now.kinds) (cells_of self.now.table t) offset }
     {
         let stop = last_passed(&self.layouts[t.0 as usize].stops, offset);
         stop.cured + (offset - stop.end)

@@ -261,8 +261,10 @@ impl Flat {
     /// Makes a block and gives its address: None exactly where the charges of all blocks or the heap's region
     /// would be passed.
     pub fn new_area(&mut self, area: Area, charge: u64) -> Option<u64>
-        ensures address { result ≡ (if block_fits self.old area charge then Some (block_address self.old) else None) }
-        ensures memory { self.new ≡ (if block_fits self.old area charge then block_made self.old area charge else self.old) }
+        ensures address { result ≡ (if block_fits self.old area charge then Some
+            (block_address self.old) else None) }
+        ensures memory { self.new ≡ (if block_fits self.old area charge then block_made self.old
+            area charge else self.old) }
     {
         let size = areas::size_within(area, self.bounds.heap_end.saturating_sub(self.heap_top))?;
         if charge > self.bounds.heap_limit - self.heap_charge {

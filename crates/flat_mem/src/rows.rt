@@ -1,4 +1,4 @@
-// Two ranges of bytes that are copied as if both were read before the first is written, with no room beside the bytes.
+//! Two ranges of bytes that are copied as if both were read before the first is written, with no room beside the bytes.
 
 ghost use Rattle.std.specs.Prelude.{◌≡◌, ◌+◌, ◌≤◌, length};
 ghost use Rattle.flat_mem.specs.Rows.{both_moved};

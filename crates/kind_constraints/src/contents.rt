@@ -63,7 +63,8 @@ fn add_forces(
     unions: &[(TypeId, Place)],
 ) -> Result<(), NoMemory>
     ensures { OnOk result
-        (Adds (OfSome unions.now (λ union c. Contains mixed.now union.0 × (c ≡ Force node Union union.1)))
+        (Adds (OfSome unions.now (λ union c. Contains mixed.now union.0
+        × (c ≡ Force node Union union.1)))
         list.old.items list.new.items) }
 {
     if mixed.is_empty() {

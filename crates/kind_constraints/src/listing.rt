@@ -57,7 +57,8 @@ fn given(asked: &Asked, answered: &mut Answered) -> Result<Vec<Constraint>, NoMe
     requires shaped { AreShaped asked.now }
     requires answered { IsAnswered asked.now.types.now asked.now.sites.now answered.old }
     ensures given { IfOk result
-        (λ list. Adds (OfSome asked.now.sites.now (IsGivenBy asked.now.types.now asked.now.sites.now)) [] list.items) }
+        (λ list. Adds (OfSome asked.now.sites.now
+        (IsGivenBy asked.now.types.now asked.now.sites.now)) [] list.items) }
     ensures answered { OnOk result
         (IsAnswered asked.now.types.now asked.now.sites.now answered.new) }
 {
@@ -90,7 +91,8 @@ fn ask<'a>(
 ) -> Result<Asked<'a>, NoMemory>
     requires { (t : TypeId) → IsPointee sites.now t → IsType types.now t }
     ensures asked { IfOk result
-        (λ asked. IsAsked types.now sites.now asked.known asked.firsts.items asked.pointees.items asked.unions.items) }
+        (λ asked. IsAsked types.now sites.now asked.known asked.firsts.items asked.pointees.items
+        asked.unions.items) }
     ensures same { IfOk result
         (λ asked. (asked.types.now ≡ types.now) × (asked.sites.now ≡ sites.now)) }
 {

@@ -38,7 +38,8 @@ fn add_flow(
     requires to { IsType asked.now.types.now target.1 }
     requires answered { IsAnswered asked.now.types.now asked.now.sites.now answered.old }
     ensures added { OnOk result
-        (Adds (IsOfFlow asked.now.types.now asked.now.sites.now source.0 source.1 target.0 target.1 place)
+        (Adds (IsOfFlow asked.now.types.now asked.now.sites.now source.0 source.1 target.0 target.1
+        place)
         list.old.items list.new.items) }
     ensures answered { OnOk result
         (IsAnswered asked.now.types.now asked.now.sites.now answered.new) }
@@ -96,7 +97,8 @@ fn add_home(
     requires asked { IsReady asked.now }
     requires typed { IsType asked.now.types.now ty }
     ensures { OnOk result
-        (Adds (λ c. IsOfContents asked.now.types.now asked.now.sites.now node ty c ⊎ (c ≡ Plain node))
+        (Adds (λ c. IsOfContents asked.now.types.now asked.now.sites.now node ty c
+        ⊎ (c ≡ Plain node))
         list.old.items list.new.items) }
 {
     add_contents(asked, list, node, ty)?;

@@ -88,7 +88,8 @@ fn add_flow_tops(
 fn add_other_top(asked: &Asked, found: &mut Found, site: Site) -> Result<(), NoMemory>
     requires asked { IsReady asked.now }
     requires shaped { (nodes : ℕ) × IsSiteInShape asked.now.types.now nodes site }
-    requires same { (t u : TypeId) → site ≡ Same t u → IsTrue (physically_equal asked.now.types.now t u) }
+    requires same { (t u : TypeId) → site ≡ Same t u
+        → IsTrue (physically_equal asked.now.types.now t u) }
     ensures { OnOk result (Gains (IsOtherTop asked.now.types.now site) found.old found.new) }
 {
     match site {
@@ -103,7 +104,8 @@ fn add_other_tops(asked: &Asked, found: &mut Found) -> Result<(), NoMemory>
     requires asked { IsReady asked.now }
     requires told { AreTold asked.now }
     ensures { OnOk result
-        (Gains (RelatedBySome asked.now.sites.now (IsOtherTop asked.now.types.now)) found.old found.new) }
+        (Gains (RelatedBySome asked.now.sites.now (IsOtherTop asked.now.types.now)) found.old
+        found.new) }
 {
     'sites: for site in asked.sites {
         add_other_top(asked, found, *site)?;

@@ -17,7 +17,8 @@ pub fn report(alloc: Global, solved: &Solved, printed: &[Printed]) -> Result<Vec
     requires kinds { AreWithin (length solved.now.kinds) printed.now }
     requires causes { AreWithin (length solved.now.causes) printed.now }
     requires caused { HaveCauses solved.now.kinds solved.now.causes printed.now }
-    ensures text { IfOk result (λ text. text.items ≡ report_of solved.now.kinds solved.now.causes printed.now) }
+    ensures text { IfOk result (λ text. text.items
+        ≡ report_of solved.now.kinds solved.now.causes printed.now) }
 {
     let kinds = &solved.kinds;
     let causes = &solved.causes;
@@ -36,7 +37,8 @@ fn push_line(
     kind: Kind,
     cause: Option<Cause>,
 ) -> Result<(), NoMemory>
-    ensures { IfOk result (λ done. text.new.items ≡ text.old.items ++ line_by printed.home printed kind cause) }
+    ensures { IfOk result (λ done. text.new.items
+        ≡ text.old.items ++ line_by printed.home printed kind cause) }
 {
     if printed.home {
         match kind {
@@ -55,7 +57,8 @@ fn push_text(
     kind: Kind,
     cause: Option<Cause>,
 ) -> Result<(), NoMemory>
-    ensures { IfOk result (λ done. text.new.items ≡ text.old.items ++ (place_text place ++ what.now ++ kind_text kind cause ++ 10 ∷ [])) }
+    ensures { IfOk result (λ done. text.new.items ≡ text.old.items ++
+        (place_text place ++ what.now ++ kind_text kind cause ++ 10 ∷ [])) }
 {
     push_place(text, place)?;
     text.extend_from_slice(what.as_bytes())?;

@@ -1,3 +1,5 @@
+//! Reports of worked pointers, and the counts of pointers of each kind.
+
 ghost use Rattle.std.specs.Prelude.{◌≡◌};
 
 use crate::{PointerCounts, count_pointers, report};
@@ -7,7 +9,12 @@ use kind_solver::{Cause, Causes, Solved, Why};
 use std::test::Fail;
 
 const fn printed(line: u32, col: u32, node: u32, home: bool) -> Printed
-    ensures { result ≡ record { place = record { line = line; col = col }; node = record { 0 = node }; home = home } }
+    ensures { result ≡ record {
+      place = record { line = line; col = col };
+      node = record
+          { 0 = node };
+      home = home;
+    } }
 {
     let place = Place { line, col };
     Printed {

@@ -216,7 +216,8 @@ fn push_origins(
     start: Start,
     constraint: Constraint,
 ) -> Result<(), NoMemory>
-    ensures pushed { OnOk result (origins.new.items ≡ origins.old.items ++ origins_of start constraint) }
+    ensures pushed { OnOk result (origins.new.items
+        ≡ origins.old.items ++ origins_of start constraint) }
     ensures fit { HasFitPlace constraint }
 {
     match constraint {
@@ -247,7 +248,8 @@ fn push_flow_origins(
     class: FlowClass,
     place: Place,
 ) -> Result<(), NoMemory>
-    ensures pushed { OnOk result (origins.new.items ≡ origins.old.items ++ flow_origins start from to class place) }
+    ensures pushed { OnOk result (origins.new.items ≡ origins.old.items ++ flow_origins start from
+        to class place) }
     ensures fit { PlaceFits place }
 {
     match (start, class) {

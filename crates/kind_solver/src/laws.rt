@@ -12,7 +12,8 @@ ghost use Rattle.kind_solver.specs.Sets.{AreKinds, AreCauses};
 pub fn answers_are_unique()
     ensures kinds { (list : List Constraint) (count : ℕ) (kinds others : List Kind)
         → AreKinds list count kinds → AreKinds list count others → kinds ≡ others }
-    ensures causes { (list : List Constraint) (count : ℕ) (kinds : List Kind) (causes others : List (Option Cause))
+    ensures causes { (list : List Constraint) (count : ℕ) (kinds : List Kind)
+        (causes others : List (Option Cause))
         → AreCauses list count kinds causes → AreCauses list count kinds others → causes ≡ others }
 {}
 
@@ -20,6 +21,8 @@ pub fn answers_are_unique()
 pub fn order_is_free()
     ensures kinds { (list other : List Constraint) (count : ℕ) (kinds : List Kind)
         → HaveSameMembers list other → AreKinds list count kinds → AreKinds other count kinds }
-    ensures causes { (list other : List Constraint) (count : ℕ) (kinds : List Kind) (causes : List (Option Cause))
-        → HaveSameMembers list other → AreCauses list count kinds causes → AreCauses other count kinds causes }
+    ensures causes { (list other : List Constraint) (count : ℕ) (kinds : List Kind)
+        (causes : List (Option Cause))
+        → HaveSameMembers list other → AreCauses list count kinds causes
+        → AreCauses other count kinds causes }
 {}

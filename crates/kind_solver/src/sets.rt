@@ -24,7 +24,8 @@ pub fn chain_causes(
     pass: Pass,
 ) -> Result<Vec<Option<Cause>>, NoMemory>
     requires { AreWithin count list.now }
-    ensures { IfOk result (λ causes. Shows (Chain (origins start list.now) (edges pass list.now)) count causes.items) }
+    ensures { IfOk result (λ causes. Shows (Chain (origins start list.now) (edges pass list.now))
+        count causes.items) }
 {
     let origins = gather_origins(alloc, start, list)?;
     let edges = gather_edges(alloc, pass, list)?;
@@ -98,7 +99,8 @@ fn push_across(
     causes: &[Option<Cause>],
 ) -> Result<(), NoMemory>
     requires { EdgesWithin (length causes.now) edges.now }
-    ensures { OnOk result (origins.new.items ≡ origins.old.items ++ flat_map (across causes.now) edges.now) }
+    ensures { OnOk result (origins.new.items ≡ origins.old.items ++ flat_map
+        (across causes.now) edges.now) }
 {
     for edge in edges {
         push_at(origins, *edge, causes[edge.from.0 as usize])?;
@@ -131,7 +133,8 @@ fn push_free(
     requires first { OriginsWithin (length first.now) loose.now }
     requires wild { OriginsWithin (length wild.now) loose.now }
     requires rises { OriginsWithin (length rises.now) loose.now }
-    ensures { OnOk result (origins.new.items ≡ origins.old.items ++ free_origins first.now wild.now rises.now loose.now) }
+    ensures { OnOk result (origins.new.items ≡ origins.old.items ++ free_origins first.now wild.now
+        rises.now loose.now) }
 {
     let without_needs = outside(alloc, loose, first)?;
     let without_wild = outside(alloc, &without_needs, wild)?;

@@ -76,7 +76,8 @@ fn spread_round(causes: &mut [Option<Cause>], edges: &[Edge]) -> bool
     requires { EdgesWithin (length causes.old) edges.now }
     ensures comes { Comes edges.now causes.old causes.new }
     ensures falls { Falls causes.old causes.new }
-    ensures cases { MatchBool result (sum_by late causes.new < sum_by late causes.old) (IsClosed edges.now causes.new) }
+    ensures cases { MatchBool result (sum_by late causes.new < sum_by late causes.old)
+        (IsClosed edges.now causes.new) }
 {
     let mut changed = false;
     for edge in edges {

@@ -151,7 +151,8 @@ pub(crate) fn follow(out: &mut Draft, t: u8, node: NodeId, what: After)
 }
 
 fn put_load(out: &mut Draft, into: u8, spot: Spot)
-    ensures { Grows (Line (instr.Access (access.Load (value into) (value spot.address) spot.node spot.ty spot.own) ∷ [])) (Unit {0}) out.old out.new }
+    ensures { Grows (Line (instr.Access (access.Load (value into)
+        (value spot.address) spot.node spot.ty spot.own) ∷ [])) (Unit {0}) out.old out.new }
 {
     put(
         out,
@@ -168,7 +169,8 @@ fn put_load(out: &mut Draft, into: u8, spot: Spot)
 /// What is stored is the result, or what another temporary holds.
 #[tactic(auto, using(crate::proofs::Rules::line_rules))]
 fn put_store(out: &mut Draft, spot: Spot, new: Temp, left: Temp)
-    ensures { Grows (Line (store_code spot.node spot.ty spot.own spot.place spot.address new left)) (Unit {0}) out.old out.new }
+    ensures { Grows (Line (store_code spot.node spot.ty spot.own spot.place spot.address new left))
+        (Unit {0}) out.old out.new }
 {
     put(
         out,
@@ -203,7 +205,8 @@ pub(crate) struct Motion {
 #[tactic(auto, using(crate::proofs::Rules::line_rules))]
 fn put_pointer_step(out: &mut Draft, spot: Spot, how: Motion, left: Temp)
     requires { spot.address < 255 }
-    ensures { Grows (Line (stepping true how.operator how.backwards left spot.node spot.ty spot.own spot.place spot.address)) (Unit {0}) out.old out.new }
+    ensures { Grows (Line (stepping true how.operator how.backwards left spot.node spot.ty spot.own
+        spot.place spot.address)) (Unit {0}) out.old out.new }
 {
     let old = spot.address + 1;
     put_load(out, old, spot);
@@ -216,7 +219,8 @@ fn put_pointer_step(out: &mut Draft, spot: Spot, how: Motion, left: Temp)
 #[tactic(auto, using(crate::proofs::Rules::line_rules))]
 fn put_integer_step(out: &mut Draft, spot: Spot, how: Motion, left: Temp)
     requires { spot.address < 255 }
-    ensures { Grows (Line (stepping false how.operator how.backwards left spot.node spot.ty spot.own spot.place spot.address)) (Unit {0}) out.old out.new }
+    ensures { Grows (Line (stepping false how.operator how.backwards left spot.node spot.ty spot.own
+        spot.place spot.address)) (Unit {0}) out.old out.new }
 {
     let old = spot.address + 1;
     put_load(out, old, spot);
@@ -237,7 +241,8 @@ fn put_integer_step(out: &mut Draft, spot: Spot, how: Motion, left: Temp)
 
 /// A pointer of the spot's type moves.
 fn put_motion(out: &mut Draft, into: Temp, pointer: Temp, amount: Temp, backwards: bool, spot: Spot)
-    ensures { Grows (Line (instr.Point (point.Move into pointer amount (direction_of backwards) spot.ty spot.place) ∷ [])) (Unit {0}) out.old out.new }
+    ensures { Grows (Line (instr.Point (point.Move into pointer amount
+        (direction_of backwards) spot.ty spot.place) ∷ [])) (Unit {0}) out.old out.new }
 {
     put(
         out,
@@ -275,7 +280,9 @@ fn binary(
 /// A step of the scalar at the address in value t.
 #[tactic(auto, using(crate::proofs::Rules::failed_rules))]
 fn put_step(out: &mut Draft, spot: Spot, pointer: bool, how: Motion, gives_old: bool)
-    ensures { Grows (Line (stepping pointer how.operator how.backwards (step_result gives_old spot.address) spot.node spot.ty spot.own spot.place spot.address)) (suc spot.address < 256) out.old out.new }
+    ensures { Grows (Line (stepping pointer how.operator how.backwards
+        (step_result gives_old spot.address) spot.node spot.ty spot.own spot.place spot.address))
+        (suc spot.address < 256) out.old out.new }
 {
     if spot.address < 255 {
         let left = if gives_old {
@@ -296,7 +303,9 @@ fn put_step(out: &mut Draft, spot: Spot, pointer: bool, how: Motion, gives_old: 
 /// `=` at the address, of what is in the next value.
 #[tactic(auto, using(crate::proofs::Rules::failed_rules))]
 pub(crate) fn put_assign(out: &mut Draft, spot: Spot)
-    ensures { Grows (Line (store_code spot.node spot.ty spot.own spot.place spot.address (value (suc spot.address)) (value (suc spot.address)))) (suc spot.address < 256) out.old out.new }
+    ensures { Grows (Line (store_code spot.node spot.ty spot.own spot.place spot.address
+        (value (suc spot.address)) (value (suc spot.address))))
+        (suc spot.address < 256) out.old out.new }
 {
     if spot.address < 255 {
         let new = Temp::Value(spot.address + 1);
@@ -309,7 +318,8 @@ pub(crate) fn put_assign(out: &mut Draft, spot: Spot)
 /// A compound assignment at the address, of what is in the next value; an integer is computed in the type `computed`.
 #[tactic(auto, using(crate::proofs::Rules::failed_rules))]
 pub(crate) fn put_update(out: &mut Draft, spot: Spot, pointer: bool, how: Motion, computed: TypeId)
-    ensures { Grows (Line (updating pointer how.operator how.backwards spot.node spot.ty computed spot.own spot.place spot.address)) (suc (suc spot.address) < 256) out.old out.new }
+    ensures { Grows (Line (updating pointer how.operator how.backwards spot.node spot.ty computed
+        spot.own spot.place spot.address)) (suc (suc spot.address) < 256) out.old out.new }
 {
     if spot.address < 254 {
         if pointer {
@@ -327,7 +337,8 @@ pub(crate) fn put_update(out: &mut Draft, spot: Spot, pointer: bool, how: Motion
 #[tactic(auto, using(crate::proofs::Rules::line_rules))]
 fn put_pointer_update(out: &mut Draft, spot: Spot, how: Motion, computed: TypeId)
     requires { spot.address < 254 }
-    ensures { Grows (Line (updating true how.operator how.backwards spot.node spot.ty computed spot.own spot.place spot.address)) (Unit {0}) out.old out.new }
+    ensures { Grows (Line (updating true how.operator how.backwards spot.node spot.ty computed
+        spot.own spot.place spot.address)) (Unit {0}) out.old out.new }
 {
     let by = spot.address + 1;
     let at = by + 1;
@@ -342,7 +353,8 @@ fn put_pointer_update(out: &mut Draft, spot: Spot, how: Motion, computed: TypeId
 fn put_own_update(out: &mut Draft, spot: Spot, how: Motion, computed: TypeId)
     requires room { spot.address < 254 }
     requires same { same_type spot.ty computed ≡ true }
-    ensures { Grows (Line (updating false how.operator how.backwards spot.node spot.ty computed spot.own spot.place spot.address)) (Unit {0}) out.old out.new }
+    ensures { Grows (Line (updating false how.operator how.backwards spot.node spot.ty computed
+        spot.own spot.place spot.address)) (Unit {0}) out.old out.new }
 {
     let by = spot.address + 1;
     let at = by + 1;
@@ -367,7 +379,8 @@ fn put_own_update(out: &mut Draft, spot: Spot, how: Motion, computed: TypeId)
 fn put_converted_update(out: &mut Draft, spot: Spot, how: Motion, computed: TypeId)
     requires room { spot.address < 254 }
     requires other { same_type spot.ty computed ≡ false }
-    ensures { Grows (Line (updating false how.operator how.backwards spot.node spot.ty computed spot.own spot.place spot.address)) (Unit {0}) out.old out.new }
+    ensures { Grows (Line (updating false how.operator how.backwards spot.node spot.ty computed
+        spot.own spot.place spot.address)) (Unit {0}) out.old out.new }
 {
     let by = spot.address + 1;
     let at = by + 1;
@@ -401,7 +414,11 @@ fn converted(at: Temp, ty: TypeId) -> Instr
 
 /// What a compound assignment does.
 pub(crate) fn motion_of(op: Assignment) -> Motion
-    ensures { result ≡ record { operator = lowered_assignment op; backwards = is_subtract (operator_of_assignment op) } }
+    ensures { result ≡ record {
+      operator = lowered_assignment op;
+      backwards = is_subtract
+          (operator_of_assignment op);
+    } }
 {
     Motion {
         operator: lowered_assignment(op),

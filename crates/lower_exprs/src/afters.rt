@@ -49,7 +49,9 @@ pub(crate) fn member_of(
 
 /// An array decays to the pointer type `ty`.
 pub(crate) fn decay_of(k: &Scope<'_>, p: &TypedPlace, inner: NodeId, ty: TypeId) -> After
-    ensures { result ≡ after.Decay (place_type (typed_place_view p.now)) (is_through_pointer (typed_place_view p.now)) inner (pointee_at k.now.types.now ty) (place_at (typed_place_view p.now)) }
+    ensures { result ≡ after.Decay (place_type (typed_place_view p.now))
+        (is_through_pointer (typed_place_view p.now)) inner (pointee_at k.now.types.now ty)
+        (place_at (typed_place_view p.now)) }
 {
     After::Decay {
         array: p.ty(),
@@ -67,7 +69,9 @@ pub(crate) fn step_of(
     p: &TypedPlace,
     place: Place,
 ) -> After
-    ensures { result ≡ after.Step gives_old which (is_pointer (context_of k.now) (place_type (typed_place_view p.now))) (place_type (typed_place_view p.now)) (place_at (typed_place_view p.now)) place }
+    ensures { result ≡ after.Step gives_old which (is_pointer (context_of k.now)
+        (place_type (typed_place_view p.now))) (place_type (typed_place_view p.now))
+        (place_at (typed_place_view p.now)) place }
 {
     After::Step {
         gives_old,
@@ -87,7 +91,10 @@ pub(crate) fn copy_of(
     q: &TypedPlace,
     assignment: Place,
 ) -> After
-    ensures { result ≡ after.Copy (target.Pointer (value t) (node_in_place (context_of k.now) (typed_place_view p.now))) (place_at (typed_place_view p.now)) (place_at (typed_place_view q.now)) (place_type (typed_place_view p.now)) assignment }
+    ensures { result ≡ after.Copy (target.Pointer (value t)
+        (node_in_place (context_of k.now) (typed_place_view p.now)))
+        (place_at (typed_place_view p.now)) (place_at (typed_place_view q.now))
+        (place_type (typed_place_view p.now)) assignment }
 {
     After::Copy {
         target: Target::Pointer {

@@ -17,7 +17,16 @@ use cil_form::{Allocate, Call, Instr, RuntimeCall, Temp};
 /// A call of the function in value t, with so many arguments behind it.
 #[tactic(auto, using(crate::proofs::Rules::failed_rules))]
 pub(crate) fn put_call(out: &mut Draft, t: u8, ty: TypeId, count: usize, place: Place)
-    ensures { Grows (Line (instr.Call (record { into = value t; callee = value t; ty = ty; first = suc t; count = count; place = place }) ∷ [])) ((suc t < 256) × (count < 4294967296)) out.old out.new }
+    ensures { Grows (Line (instr.Call (record {
+      into = value t;
+      callee = value t;
+      ty = ty;
+      first =
+          suc t;
+      count = count;
+      place = place;
+    }) ∷ []))
+        ((suc t < 256) × (count < 4294967296)) out.old out.new }
 {
     if t < 255 && count < 4_294_967_296 {
         put(
@@ -104,7 +113,8 @@ pub(crate) fn block_of(node: NodeId, ty: TypeId, place: Place) -> Block
 /// An allocation.
 #[tactic(auto, using(crate::proofs::Rules::failed_rules), unfolding(lower_rules::specs::Words::Allocates))]
 pub(crate) fn put_allocation(out: &mut Draft, which: Runtime, count: usize, t: u8, block: Block)
-    ensures { Grows (Allocates which count t block.node block.ty block.place) (IsAllocation which count t) out.old out.new }
+    ensures { Grows (Allocates which count t block.node block.ty block.place)
+        (IsAllocation which count t) out.old out.new }
 {
     let into = Temp::Value(t);
     let Block { node, ty, place } = block;

@@ -40,7 +40,8 @@ pub(crate) fn set_integer(into: Temp, value: i128, ty: TypeId) -> Instr
 
 /// A truth value.
 pub(crate) fn put_truth(out: &mut Draft, t: u8, n: u8)
-    ensures { Grows (Line (instr.Set (set.Integer (value t) (pos n) (record { 0 = 5 })) ∷ [])) (Unit {0}) out.old out.new }
+    ensures { Grows (Line (instr.Set (set.Integer (value t) (pos n) (record { 0 = 5 })) ∷ []))
+        (Unit {0}) out.old out.new }
 {
     put(out, set_integer(Temp::Value(t), i128::from(n), INT))
 }
@@ -48,7 +49,8 @@ pub(crate) fn put_truth(out: &mut Draft, t: u8, n: u8)
 /// A constant of the type, converted to it.
 #[tactic(auto, using(crate::proofs::Rules::failed_rules), unfolding(lower_rules::specs::Words::Constant))]
 pub fn put_constant(out: &mut Draft, k: &Scope<'_>, t: u8, ty: TypeId, z: i128)
-    ensures { Grows (Constant (context_of k.now) t ty z) (IsConstant (context_of k.now) ty) out.old out.new }
+    ensures { Grows (Constant (context_of k.now) t ty z)
+        (IsConstant (context_of k.now) ty) out.old out.new }
 {
     let kind = constant_kind(k, ty);
     if kind.bytes == 1 || kind.bytes == 2 || kind.bytes == 4 || kind.bytes == 8 {
@@ -60,21 +62,24 @@ pub fn put_constant(out: &mut Draft, k: &Scope<'_>, t: u8, ty: TypeId, z: i128)
 
 /// A constant of 64 bits without a sign.
 pub(crate) fn put_unsigned(out: &mut Draft, k: &Scope<'_>, t: u8, ty: TypeId, n: &u64)
-    ensures { Grows (Constant (context_of k.now) t ty (pos n.now)) (IsConstant (context_of k.now) ty) out.old out.new }
+    ensures { Grows (Constant (context_of k.now) t ty (pos n.now))
+        (IsConstant (context_of k.now) ty) out.old out.new }
 {
     put_constant(out, k, t, ty, i128::from(*n))
 }
 
 /// A character constant.
 pub(crate) fn put_character(out: &mut Draft, k: &Scope<'_>, t: u8, ty: TypeId, z: &i32)
-    ensures { Grows (Constant (context_of k.now) t ty z.now) (IsConstant (context_of k.now) ty) out.old out.new }
+    ensures { Grows (Constant (context_of k.now) t ty z.now)
+        (IsConstant (context_of k.now) ty) out.old out.new }
 {
     put_constant(out, k, t, ty, i128::from(*z))
 }
 
 /// An enumeration constant.
 pub(crate) fn put_enumerator(out: &mut Draft, k: &Scope<'_>, t: u8, ty: TypeId, z: &i128)
-    ensures { Grows (Constant (context_of k.now) t ty z.now) (IsConstant (context_of k.now) ty) out.old out.new }
+    ensures { Grows (Constant (context_of k.now) t ty z.now)
+        (IsConstant (context_of k.now) ty) out.old out.new }
 {
     put_constant(out, k, t, ty, *z)
 }
@@ -102,7 +107,8 @@ fn constant_kind(k: &Scope<'_>, t: TypeId) -> Kind
 
 /// The address of a function, which is of the pointer type.
 pub(crate) fn put_function(out: &mut Draft, t: u8, number: u32, ty: TypeId)
-    ensures { Grows (Line (instr.Set (set.Function (value t) (record { 0 = number }) ty) ∷ [])) (Unit {0}) out.old out.new }
+    ensures { Grows (Line (instr.Set (set.Function (value t) (record { 0 = number }) ty) ∷ []))
+        (Unit {0}) out.old out.new }
 {
     put(
         out,
@@ -117,7 +123,8 @@ pub(crate) fn put_function(out: &mut Draft, t: u8, number: u32, ty: TypeId)
 /// The address of an object.
 #[tactic(auto, using(crate::proofs::Rules::object_rules))]
 pub(crate) fn put_object(out: &mut Draft, k: &Scope<'_>, t: u8, home: NodeId, ty: TypeId)
-    ensures { Grows (Objects (context_of k.now) t home ty) (HasObject (context_of k.now) home) out.old out.new }
+    ensures { Grows (Objects (context_of k.now) t home ty)
+        (HasObject (context_of k.now) home) out.old out.new }
 {
     match object_in(k, home) {
         Some(object) => push(
@@ -157,7 +164,8 @@ pub(crate) fn put_prefix(out: &mut Draft, op: Unary, t: u8, ty: TypeId)
 
 /// The truth value of value t.
 pub(crate) fn put_test(out: &mut Draft, t: u8)
-    ensures { Grows (Line (instr.Calculate (calculate.Truth (value t) (value t)) ∷ [])) (Unit {0}) out.old out.new }
+    ensures { Grows (Line (instr.Calculate (calculate.Truth (value t) (value t)) ∷ []))
+        (Unit {0}) out.old out.new }
 {
     put(
         out,
@@ -321,7 +329,13 @@ pub(crate) struct Operands {
 
 /// The operands of an operator, in values t and t + 1.
 pub(crate) fn operands_of(t: u8, a: &TypedExpr, b: &TypedExpr, place: Place) -> Operands
-    ensures { result ≡ record { first = t; left = type_of (typed_expr_view a.now); right = type_of (typed_expr_view b.now); place = place } }
+    ensures { result ≡ record {
+      first = t;
+      left = type_of (typed_expr_view a.now);
+      right = type_of
+          (typed_expr_view b.now);
+      place = place;
+    } }
 {
     Operands {
         first: t,
@@ -334,7 +348,8 @@ pub(crate) fn operands_of(t: u8, a: &TypedExpr, b: &TypedExpr, place: Place) -> 
 /// A pointer plus or minus an integer.
 #[tactic(auto, using(crate::proofs::Rules::failed_rules), unfolding(lower_rules::specs::Words::Moves))]
 pub(crate) fn put_move(out: &mut Draft, which: Side, backwards: bool, two: Operands)
-    ensures { Grows (Moves which backwards two.first two.left two.right two.place) (suc two.first < 256) out.old out.new }
+    ensures { Grows (Moves which backwards two.first two.left two.right two.place)
+        (suc two.first < 256) out.old out.new }
 {
     let t = two.first;
     if t < 255 {
@@ -372,7 +387,9 @@ pub(crate) fn put_move(out: &mut Draft, which: Side, backwards: bool, two: Opera
 /// The difference of two pointers.
 #[tactic(auto, using(crate::proofs::Rules::failed_rules))]
 pub(crate) fn put_difference(out: &mut Draft, two: Operands)
-    ensures { Grows (Line (instr.Point (point.Difference (value two.first) (value two.first) two.left (value (suc two.first)) two.right two.place) ∷ [])) (suc two.first < 256) out.old out.new }
+    ensures { Grows (Line (instr.Point (point.Difference (value two.first)
+        (value two.first) two.left (value (suc two.first)) two.right two.place) ∷ []))
+        (suc two.first < 256) out.old out.new }
 {
     let t = two.first;
     if t < 255 {
@@ -394,7 +411,8 @@ pub(crate) fn put_difference(out: &mut Draft, two: Operands)
 
 /// A pointer, in value `from`, compared with a null constant.
 fn put_is_null(out: &mut Draft, t: u8, from: u8, ty: TypeId, different: bool)
-    ensures { Grows (Line (instr.Point (point.IsNull (value t) (value from) ty different) ∷ [])) (Unit {0}) out.old out.new }
+    ensures { Grows (Line (instr.Point (point.IsNull (value t) (value from) ty different) ∷ []))
+        (Unit {0}) out.old out.new }
 {
     put(
         out,
@@ -416,7 +434,8 @@ pub(crate) fn put_compare(
     op: Binary,
     two: Operands,
 )
-    ensures { Grows (Compares left_null right_null op two.first two.left two.right two.place) ((suc two.first < 256) × IsComparison op) out.old out.new }
+    ensures { Grows (Compares left_null right_null op two.first two.left two.right two.place)
+        ((suc two.first < 256) × IsComparison op) out.old out.new }
 {
     let t = two.first;
     let different = is_different(op);
@@ -437,7 +456,8 @@ pub(crate) fn put_compare(
 #[tactic(auto, using(crate::proofs::Rules::compared_rules), unfolding(lower_rules::specs::Words::ComparesBy))]
 fn put_comparison(out: &mut Draft, op: Binary, two: Operands)
     requires { two.first < 255 }
-    ensures { Grows (ComparesBy (comparison_of op) two.first two.left two.right two.place) (IsComparison op) out.old out.new }
+    ensures { Grows (ComparesBy (comparison_of op) two.first two.left two.right two.place)
+        (IsComparison op) out.old out.new }
 {
     match comparison_of(op) {
         Some(comparison) => put(

@@ -15,7 +15,8 @@ use cil_form::{Code, Instr, Temp};
 
 /// Appends an instruction, or remembers that memory was wanted.
 pub fn push(out: &mut Draft, one: Instr)
-    ensures appended { out.new.fine ≡ true → (out.old.fine ≡ true) × (out.new.items.items ≡ out.old.items.items ++ (one ∷ [])) }
+    ensures appended { out.new.fine ≡ true → (out.old.fine ≡ true)
+        × (out.new.items.items ≡ out.old.items.items ++ (one ∷ [])) }
     ensures ready { out.new.ready ≡ out.old.ready }
 {
     if out.items.push(one).is_err() {
@@ -70,7 +71,8 @@ pub fn start(k: &Scope<'_>) -> Draft
 /// A choice by value t.
 #[tactic(auto, using(crate::proofs::Rules::chosen_rules))]
 pub fn choose(out: &mut Draft, t: u8, then: Draft, otherwise: Draft)
-    ensures { Grows (Chosen (value t) then otherwise) (AreBothReady then otherwise) out.old out.new }
+    ensures { Grows (Chosen (value t) then otherwise)
+        (AreBothReady then otherwise) out.old out.new }
 {
     if then.ready {
         if otherwise.ready {
@@ -110,7 +112,8 @@ pub fn put_logical(out: &mut Draft, k: &Scope<'_>, t: u8, or: bool, right: Draft
 /// Only where a place is no choice between structs.
 #[tactic(auto, using(crate::proofs::Rules::fixed_rules))]
 pub fn demand_fixed(out: &mut Draft, p: &TypedPlace)
-    ensures { Grows (Fixed (typed_place_view p.now)) (IsFixed (typed_place_view p.now)) out.old out.new }
+    ensures { Grows (Fixed (typed_place_view p.now))
+        (IsFixed (typed_place_view p.now)) out.old out.new }
 {
     if !is_fixed(p) {
         refuse(out)

@@ -114,7 +114,8 @@ pub(crate) fn named_type(name: &TypedTypeName) -> TypeId
 
 /// The type of the operand that is the pointer.
 pub(crate) fn pointer_type(which: Side, a: &TypedExpr, b: &TypedExpr) -> TypeId
-    ensures { result ≡ type_of (pointer_side which (typed_expr_view a.now) (typed_expr_view b.now)) }
+    ensures { result ≡ type_of (pointer_side which (typed_expr_view a.now)
+        (typed_expr_view b.now)) }
 {
     match which {
         Side::Left => a.ty(),

@@ -26,7 +26,9 @@ use lower_rules::After;
 #[cycle(lowering)]
 #[tactic(auto, using(crate::proofs::Rules::nothing_rules))]
 fn arguments(out: &mut Draft, k: &Scope<'_>, t: u8, all: &[TypedExpr])
-    ensures { Grows (IsCodeOfArguments (typed_arguments_of (map typed_expr_view all.now)) (context_of k.now) (suc t)) (HaveCode (typed_arguments_of (map typed_expr_view all.now)) (context_of k.now) (suc t)) out.old out.new }
+    ensures { Grows (IsCodeOfArguments (typed_arguments_of (map typed_expr_view all.now))
+        (context_of k.now) (suc t)) (HaveCode (typed_arguments_of (map typed_expr_view all.now))
+        (context_of k.now) (suc t)) out.old out.new }
 {
     let mut i = 0;
     for e in all {
@@ -39,7 +41,9 @@ fn arguments(out: &mut Draft, k: &Scope<'_>, t: u8, all: &[TypedExpr])
 /// Appends the code of a place, which leaves its address in value t, and what comes after.
 #[cycle(lowering)]
 pub fn place(out: &mut Draft, k: &Scope<'_>, t: u8, p: &TypedPlace, after: After)
-    ensures { Grows (IsCodeOfPlace (typed_place_view p.now) (context_of k.now) t (Follows after t)) (HasCodeOfPlace (typed_place_view p.now) (context_of k.now) t (HasRoom after t)) out.old out.new }
+    ensures { Grows (IsCodeOfPlace (typed_place_view p.now) (context_of k.now) t (Follows after t))
+        (HasCodeOfPlace (typed_place_view p.now) (context_of k.now) t (HasRoom after t)) out.old
+        out.new }
 {
     match p {
         TypedPlace::Variable(_, home, ty) => {
@@ -109,7 +113,8 @@ pub fn place(out: &mut Draft, k: &Scope<'_>, t: u8, p: &TypedPlace, after: After
 /// Appends the code of an expression, which leaves its value in value t.
 #[cycle(lowering)]
 pub fn expr(out: &mut Draft, k: &Scope<'_>, t: u8, e: &TypedExpr)
-    ensures { Grows (IsCodeOf (typed_expr_view e.now) (context_of k.now) t) (HasCode (typed_expr_view e.now) (context_of k.now) t) out.old out.new }
+    ensures { Grows (IsCodeOf (typed_expr_view e.now) (context_of k.now) t)
+        (HasCode (typed_expr_view e.now) (context_of k.now) t) out.old out.new }
 {
     match e {
         TypedExpr::Integer(_, n, _, ty) => put_unsigned(out, k, t, *ty, n),

@@ -17,7 +17,8 @@ use lower_exprs::{Draft, Scope, keep, object_in, refuse};
 
 /// Appends the code of a declaration.
 pub fn declaration(out: &mut Draft, k: &Scope<'_>, d: &TypedDeclaration)
-    ensures { Grows (IsCodeOfDeclaration (typed_declaration_view d.now) (context_of k.now)) (HasCodeOfDeclaration (typed_declaration_view d.now) (context_of k.now)) out.old out.new }
+    ensures { Grows (IsCodeOfDeclaration (typed_declaration_view d.now) (context_of k.now))
+        (HasCodeOfDeclaration (typed_declaration_view d.now) (context_of k.now)) out.old out.new }
 {
     declarators(out, k, d.declarators.as_slice())
 }
@@ -25,7 +26,10 @@ pub fn declaration(out: &mut Draft, k: &Scope<'_>, d: &TypedDeclaration)
 /// Appends the code of declarators in order.
 #[tactic(auto, using(crate::proofs::Rules::nothing_rules))]
 fn declarators(out: &mut Draft, k: &Scope<'_>, all: &[TypedInitDeclarator])
-    ensures { Grows (IsCodeOfDeclarators (added typed.NoInitDeclarator (map typed_init_declarator_view all.now)) (context_of k.now)) (HasCodeOfDeclarators (added typed.NoInitDeclarator (map typed_init_declarator_view all.now)) (context_of k.now)) out.old out.new }
+    ensures { Grows (IsCodeOfDeclarators (added typed.NoInitDeclarator
+        (map typed_init_declarator_view all.now)) (context_of k.now))
+        (HasCodeOfDeclarators (added typed.NoInitDeclarator
+        (map typed_init_declarator_view all.now)) (context_of k.now)) out.old out.new }
 {
     for one in all {
         match one {
@@ -54,7 +58,11 @@ fn declared_type(d: &TypedDeclarator) -> TypeId
 /// An object that lives as long as the program is initialised before `main` begins, and not where its declaration stands.
 #[tactic(auto, using(crate::proofs::Rules::nothing_rules))]
 fn declared(out: &mut Draft, k: &Scope<'_>, d: &TypedDeclarator, at: Place, i: &TypedInitialiser)
-    ensures { Grows (IsCodeOfDeclared (home_of (typed_declarator_view d.now)) (declared_type (typed_declarator_view d.now)) at (typed_initialiser_view i.now) (context_of k.now)) (HasCodeOfDeclared (home_of (typed_declarator_view d.now)) (declared_type (typed_declarator_view d.now)) (typed_initialiser_view i.now) (context_of k.now)) out.old out.new }
+    ensures { Grows (IsCodeOfDeclared (home_of (typed_declarator_view d.now))
+        (declared_type (typed_declarator_view d.now)) at (typed_initialiser_view i.now)
+        (context_of k.now)) (HasCodeOfDeclared (home_of (typed_declarator_view d.now))
+        (declared_type (typed_declarator_view d.now)) (typed_initialiser_view i.now)
+        (context_of k.now)) out.old out.new }
 {
     match declared_home(d) {
         Home::Local(home) => initialise(out, k, home, declared_type(d), at, i),
@@ -75,7 +83,9 @@ pub fn initialise(
     at: Place,
     i: &TypedInitialiser,
 )
-    ensures { Grows (IsCodeOfObject home ty at (typed_initialiser_view i.now) (context_of k.now)) (HasCodeOfObject home ty (typed_initialiser_view i.now) (context_of k.now)) out.old out.new }
+    ensures { Grows (IsCodeOfObject home ty at (typed_initialiser_view i.now) (context_of k.now))
+        (HasCodeOfObject home ty (typed_initialiser_view i.now) (context_of k.now)) out.old
+        out.new }
 {
     match object_in(k, home) {
         Some(object) => fill_whole(out, k, Whole { object, home, ty }, at, i),

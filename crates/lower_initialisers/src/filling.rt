@@ -52,7 +52,9 @@ pub(crate) fn fill_whole(
     at: Place,
     i: &TypedInitialiser,
 )
-    ensures { Grows (Fills (initialised_of whole) at (typed_initialiser_view i.now) (context_of k.now)) (Unit {0} × HasCodeOfInitialiser (typed_initialiser_view i.now) (context_of k.now) whole.ty 0) out.old out.new }
+    ensures { Grows (Fills (initialised_of whole) at (typed_initialiser_view i.now)
+        (context_of k.now)) (Unit {0} × HasCodeOfInitialiser (typed_initialiser_view i.now)
+        (context_of k.now) whole.ty 0) out.old out.new }
 {
     put_clear(out, whole, clears(k, i));
     let p = Portion {
@@ -108,7 +110,10 @@ fn put_clear(out: &mut Draft, o: Whole, clears: bool)
 /// Appends the code of the initialiser of a part.
 #[cycle(initialisers)]
 fn fill(out: &mut Draft, k: &Scope<'_>, p: Portion, i: &TypedInitialiser)
-    ensures { Grows (IsCodeOfInitialiser (typed_initialiser_view i.now) (context_of k.now) p.at p.ty p.base (initialised_of p.whole)) (HasCodeOfInitialiser (typed_initialiser_view i.now) (context_of k.now) p.ty p.base) out.old out.new }
+    ensures { Grows (IsCodeOfInitialiser (typed_initialiser_view i.now)
+        (context_of k.now) p.at p.ty p.base (initialised_of p.whole))
+        (HasCodeOfInitialiser (typed_initialiser_view i.now) (context_of k.now) p.ty p.base) out.old
+        out.new }
 {
     match i {
         TypedInitialiser::Value(e) => {
@@ -124,7 +129,10 @@ fn fill(out: &mut Draft, k: &Scope<'_>, p: Portion, i: &TypedInitialiser)
 /// Appends the code of items in order.
 #[cycle(initialisers)]
 fn items(out: &mut Draft, k: &Scope<'_>, p: Portion, all: &[TypedItem])
-    ensures { Grows (IsCodeOfItems (added typed.NoItem (map typed_item_view all.now)) (context_of k.now) p.base (initialised_of p.whole)) (HasCodeOfItems (added typed.NoItem (map typed_item_view all.now)) (context_of k.now) p.base) out.old out.new }
+    ensures { Grows (IsCodeOfItems (added typed.NoItem (map typed_item_view all.now))
+        (context_of k.now) p.base (initialised_of p.whole))
+        (HasCodeOfItems (added typed.NoItem (map typed_item_view all.now))
+        (context_of k.now) p.base) out.old out.new }
 {
     for one in all {
         item(out, k, p, one)
@@ -134,7 +142,12 @@ fn items(out: &mut Draft, k: &Scope<'_>, p: Portion, all: &[TypedItem])
 /// Appends the code of an item behind the code of others.
 #[cycle(initialisers)]
 fn item(out: &mut Draft, k: &Scope<'_>, p: Portion, one: &TypedItem)
-    ensures { (all : typed.TypedItems) (start : SeenDraft) → Grows (IsCodeOfItems all (context_of k.now) p.base (initialised_of p.whole)) (HasCodeOfItems all (context_of k.now) p.base) start out.old → Grows (IsCodeOfItems (typed_item_view one.now all) (context_of k.now) p.base (initialised_of p.whole)) (HasCodeOfItems (typed_item_view one.now all) (context_of k.now) p.base) start out.new }
+    ensures { (all : typed.TypedItems) (start : SeenDraft)
+        → Grows (IsCodeOfItems all (context_of k.now) p.base (initialised_of p.whole))
+        (HasCodeOfItems all (context_of k.now) p.base) start out.old
+        → Grows (IsCodeOfItems (typed_item_view one.now all) (context_of k.now) p.base
+        (initialised_of p.whole)) (HasCodeOfItems (typed_item_view one.now all)
+        (context_of k.now) p.base) start out.new }
 {
     let i = &one.initialiser;
     let inner = part_of(out, p, one.offset, one.ty, item_place(i));
@@ -143,7 +156,8 @@ fn item(out: &mut Draft, k: &Scope<'_>, p: Portion, one: &TypedItem)
 
 /// The part that begins at this offset in another part.
 fn part_of(out: &mut Draft, p: Portion, offset: u64, ty: TypeId, at: Place) -> Portion
-    ensures room { Grows (When (p.base + offset < 2 ^ 64) (Line [])) (p.base + offset < 2 ^ 64) out.old out.new }
+    ensures room { Grows (When (p.base + offset < 2 ^ 64) (Line []))
+        (p.base + offset < 2 ^ 64) out.old out.new }
     ensures base { p.base + offset < 2 ^ 64 → result.base ≡ p.base + offset }
     ensures whole { result.whole ≡ p.whole }
     ensures of_type { result.ty ≡ ty }
@@ -163,7 +177,8 @@ fn part_of(out: &mut Draft, p: Portion, offset: u64, ty: TypeId, at: Place) -> P
 
 /// Appends the store of value 0 into a part.
 fn put_part(out: &mut Draft, p: Portion)
-    ensures { Grows (Line (instr.Access (access.Store (part (initialised_of p.whole) p.base) (value 0) p.ty p.at p.at) ∷ [])) (Unit {0}) out.old out.new }
+    ensures { Grows (Line (instr.Access (access.Store (part (initialised_of p.whole) p.base)
+        (value 0) p.ty p.at p.at) ∷ [])) (Unit {0}) out.old out.new }
 {
     put(
         out,
@@ -184,7 +199,8 @@ fn put_part(out: &mut Draft, p: Portion)
 
 /// A struct or union is copied into a part.
 fn copy_into(p: Portion, from: &TypedPlace, at: Place) -> After
-    ensures { result ≡ after.Copy (part (initialised_of p.whole) p.base) at (place_at (typed_place_view from.now)) p.ty at }
+    ensures { result ≡ after.Copy (part (initialised_of p.whole) p.base) at
+        (place_at (typed_place_view from.now)) p.ty at }
 {
     After::Copy {
         target: Target::Part {

@@ -31,7 +31,9 @@ fn element_of(k: &Scope<'_>, t: TypeId) -> TypeId
 
 /// Appends the code that stores the bytes of a literal, from the first on.
 pub(crate) fn put_literal(out: &mut Draft, k: &Scope<'_>, p: Portion, bytes: &[u8])
-    ensures { Grows (Line (text_code (context_of k.now).table (initialised_of p.whole) (element_of_shape (shape_at k.now.types.now p.ty)) p.at p.base bytes.now)) (HasCodeOfText (context_of k.now) p.ty p.base (length bytes.now)) out.old out.new }
+    ensures { Grows (Line (text_code (context_of k.now).table (initialised_of p.whole)
+        (element_of_shape (shape_at k.now.types.now p.ty)) p.at p.base bytes.now))
+        (HasCodeOfText (context_of k.now) p.ty p.base (length bytes.now)) out.old out.new }
 {
     if (bytes.len() as u64) <= u64::MAX - p.base {
         put_text(out, k, p, element_of(k, p.ty), bytes)
@@ -44,7 +46,9 @@ pub(crate) fn put_literal(out: &mut Draft, k: &Scope<'_>, p: Portion, bytes: &[u
 #[tactic(auto, using(crate::proofs::Rules::nothing_rules))]
 fn put_text(out: &mut Draft, k: &Scope<'_>, p: Portion, element: TypeId, bytes: &[u8])
     requires { p.base + length bytes.now < 2 ^ 64 }
-    ensures { Grows (Line (text_code (context_of k.now).table (initialised_of p.whole) element p.at p.base bytes.now)) (IsConstant (context_of k.now) element) out.old out.new }
+    ensures { Grows (Line (text_code (context_of k.now).table
+        (initialised_of p.whole) element p.at p.base bytes.now))
+        (IsConstant (context_of k.now) element) out.old out.new }
 {
     let mut i = 0;
     for b in bytes {
@@ -56,7 +60,8 @@ fn put_text(out: &mut Draft, k: &Scope<'_>, p: Portion, element: TypeId, bytes: 
 /// Appends the code that stores one byte at this offset.
 #[tactic(auto, using(crate::proofs::Rules::byte_rules))]
 fn put_byte(out: &mut Draft, k: &Scope<'_>, p: Portion, element: TypeId, offset: u64, b: u8)
-    ensures { Grows (Byte (context_of k.now) (initialised_of p.whole) element p.at offset b) (IsConstant (context_of k.now) element × Unit {0}) out.old out.new }
+    ensures { Grows (Byte (context_of k.now) (initialised_of p.whole) element p.at offset b)
+        (IsConstant (context_of k.now) element × Unit {0}) out.old out.new }
 {
     put_constant(out, k, 0, element, i128::from(b));
     put(

@@ -14,5 +14,7 @@ ghost use Rattle.lower_rules.specs.Units.{IsCodeOfUnit};
 /// The run of the code of a unit is the run of the unit: in its ending, its output, the bytes that it reads, its accesses, the functions that it
 /// enters and the memory at the end, for whatever kinds the nodes have, for every input and every bound on turns.
 pub fn code_means_what_its_unit_means()
-    ensures { (u : TypedTranslationUnit) (p : Program) → IsCodeOfUnit u p → (kind : NodeId → Kind) (input : Input) (turns : ℕ) → code_run p kind input turns ≡ source_run u p.types kind input turns }
+    ensures { (u : TypedTranslationUnit) (p : Program) → IsCodeOfUnit u p
+        → (kind : NodeId → Kind) (input : Input) (turns : ℕ) → code_run p kind input turns
+        ≡ source_run u p.types kind input turns }
 {}

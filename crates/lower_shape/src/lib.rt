@@ -18,5 +18,6 @@ pub fn lowered_code_is_in_shape()
 /// The sites of lowered code tell all: of a program that is lowered from a well typed unit they tell what each pointer type points to, the
 /// home of each object, each complete union, both ends of each flow and which types are of one name, and of each node one thing alone.
 pub fn lowered_sites_are_told()
-    ensures { (unit : TypedTranslationUnit) (program : Program) → IsWellTyped program.types unit → IsLoweredFrom unit program → IsToldOf program }
+    ensures { (unit : TypedTranslationUnit) (program : Program) → IsWellTyped program.types unit
+        → IsLoweredFrom unit program → IsToldOf program }
 {}

@@ -43,7 +43,8 @@ pub(crate) fn skip(out: &mut Names)
 
 /// A type, and the one with which the same was declared first.
 fn put_same(out: &mut Names, first: TypeId, t: TypeId)
-    ensures fine { out.new.fine ≡ true → (out.old.fine ≡ true) × (out.new.sites.items ≡ out.old.sites.items ++ same_as t (Some first)) }
+    ensures fine { out.new.fine ≡ true → (out.old.fine ≡ true)
+        × (out.new.sites.items ≡ out.old.sites.items ++ same_as t (Some first)) }
     ensures objects { out.new.objects ≡ out.old.objects }
     ensures functions { out.new.functions ≡ out.old.functions }
 {

@@ -21,7 +21,8 @@ use std::alloc::Global;
 /// The sites of the declarations of names.
 #[tactic(auto, using(crate::proofs::SiteLaws::names_told))]
 fn told_names(alloc: Global, types: &Types, unit: &TypedUnit) -> Result<Vec<Site>, NoMemory>
-    ensures { IfOk result (λ sites. sites.items ≡ sites_of_names (named_in (typed_unit_view unit.now) types.now)) }
+    ensures { IfOk result (λ sites. sites.items
+        ≡ sites_of_names (named_in (typed_unit_view unit.now) types.now)) }
 {
     let k = Scope { alloc, types };
     let mut out = Names {
@@ -58,7 +59,8 @@ fn put_objects(out: &mut Vec<Site>, program: &Program) -> Result<(), NoMemory>
 /// All sites of a unit, of which a program is the code that has the sites of its pieces.
 pub fn sites_of(alloc: Global, unit: &TypedUnit, program: &Program) -> Result<Sites, NoMemory>
     requires code { IsCodeOfUnit (typed_unit_view unit.now) program.now }
-    requires pieces { program.now.sites ≡ flat_map (sites_of_piece program.now.types) (pieces_of_unit (typed_unit_view unit.now)) }
+    requires pieces { program.now.sites ≡ flat_map (sites_of_piece program.now.types)
+        (pieces_of_unit (typed_unit_view unit.now)) }
     ensures { IfOk result (λ all. all ≡ sites_of (typed_unit_view unit.now) program.now.types) }
 {
     let mut all = Vec::new(alloc);

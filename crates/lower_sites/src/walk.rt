@@ -17,7 +17,9 @@ use c_tree::{
 
 /// Whether a specifier is the word `typedef`.
 fn is_typedef_word(one: &TypedSpecifier) -> bool
-    ensures { (all : typed.TypedSpecifierList) → is_typedef_list (typed.AndSpecifier all (typed_specifier_view one.now)) ≡ (if result then true else is_typedef_list all) }
+    ensures { (all : typed.TypedSpecifierList) → is_typedef_list
+        (typed.AndSpecifier all (typed_specifier_view one.now))
+        ≡ (if result then true else is_typedef_list all) }
 {
     match one {
         TypedSpecifier::Keyword(word) => word.keyword == Keyword::Typedef,
@@ -48,7 +50,10 @@ fn is_typedef_list(all: &[TypedSpecifier]) -> bool
 
 /// A declarator behind others.
 fn declarator(out: &mut Names, k: &Scope<'_>, one: &TypedInitDeclarator)
-    ensures { (all : typed.TypedInitDeclarators) (start : Seen) → Tells (named_by_all k.now.types.now (declarators_of all)) start out.old → Tells (named_by_all k.now.types.now (declarators_of (typed_init_declarator_view one.now all))) start out.new }
+    ensures { (all : typed.TypedInitDeclarators) (start : Seen)
+        → Tells (named_by_all k.now.types.now (declarators_of all)) start out.old
+        → Tells (named_by_all k.now.types.now
+        (declarators_of (typed_init_declarator_view one.now all))) start out.new }
 {
     match one {
         TypedInitDeclarator::Plain(d) => tell(out, k, d),
@@ -57,7 +62,8 @@ fn declarator(out: &mut Names, k: &Scope<'_>, one: &TypedInitDeclarator)
 }
 
 fn declarators(out: &mut Names, k: &Scope<'_>, all: &[TypedInitDeclarator])
-    ensures { Tells (named_by_all k.now.types.now (declarators_of (added typed.NoInitDeclarator (map typed_init_declarator_view all.now)))) out.old out.new }
+    ensures { Tells (named_by_all k.now.types.now (declarators_of
+        (added typed.NoInitDeclarator (map typed_init_declarator_view all.now)))) out.old out.new }
 {
     for one in all {
         declarator(out, k, one)
@@ -66,7 +72,8 @@ fn declarators(out: &mut Names, k: &Scope<'_>, all: &[TypedInitDeclarator])
 
 /// A declaration. A typedef declares no object and no function (C99 6.7.7).
 fn declaration(out: &mut Names, k: &Scope<'_>, one: &TypedDeclaration)
-    ensures { Tells (named_by_all k.now.types.now (declarators_in_declaration (typed_declaration_view one.now))) out.old out.new }
+    ensures { Tells (named_by_all k.now.types.now (declarators_in_declaration
+        (typed_declaration_view one.now))) out.old out.new }
 {
     if is_typedef(&one.specifiers) {
         skip(out)
@@ -78,7 +85,8 @@ fn declaration(out: &mut Names, k: &Scope<'_>, one: &TypedDeclaration)
 /// A statement.
 #[cycle(telling)]
 fn statement(out: &mut Names, k: &Scope<'_>, one: &TypedStatement)
-    ensures { Tells (named_by_all k.now.types.now (declarators_in_statement (typed_statement_view one.now))) out.old out.new }
+    ensures { Tells (named_by_all k.now.types.now (declarators_in_statement
+        (typed_statement_view one.now))) out.old out.new }
 {
     match one {
         TypedStatement::Block(_, items) => block(out, k, items.as_slice()),
@@ -106,7 +114,8 @@ fn statement(out: &mut Names, k: &Scope<'_>, one: &TypedStatement)
 /// What a block holds.
 #[cycle(telling)]
 fn block(out: &mut Names, k: &Scope<'_>, all: &[TypedBlockItem])
-    ensures { Tells (named_by_all k.now.types.now (declarators_in_items (typed_block_view all.now))) out.old out.new }
+    ensures { Tells (named_by_all k.now.types.now (declarators_in_items (typed_block_view all.now)))
+        out.old out.new }
 {
     for one in all {
         block_item(out, k, one)
@@ -116,7 +125,10 @@ fn block(out: &mut Names, k: &Scope<'_>, all: &[TypedBlockItem])
 /// An item of a block behind others.
 #[cycle(telling)]
 fn block_item(out: &mut Names, k: &Scope<'_>, one: &TypedBlockItem)
-    ensures { (all : typed.TypedBlockItems) (start : Seen) → Tells (named_by_all k.now.types.now (declarators_in_items all)) start out.old → Tells (named_by_all k.now.types.now (declarators_in_items (typed_block_item_view one.now all))) start out.new }
+    ensures { (all : typed.TypedBlockItems) (start : Seen)
+        → Tells (named_by_all k.now.types.now (declarators_in_items all)) start out.old
+        → Tells (named_by_all k.now.types.now
+        (declarators_in_items (typed_block_item_view one.now all))) start out.new }
 {
     match one {
         TypedBlockItem::Statement(s) => statement(out, k, s),
@@ -128,7 +140,10 @@ fn block_item(out: &mut Names, k: &Scope<'_>, one: &TypedBlockItem)
 
 /// A declaration or a function, behind what comes before it.
 fn external(out: &mut Names, k: &Scope<'_>, one: &TypedExternal)
-    ensures { (all : typed.TypedTranslationUnit) (start : Seen) → Tells (named_by_all k.now.types.now (declarators_in all)) start out.old → Tells (named_by_all k.now.types.now (declarators_in (typed_external_view one.now all))) start out.new }
+    ensures { (all : typed.TypedTranslationUnit) (start : Seen)
+        → Tells (named_by_all k.now.types.now (declarators_in all)) start out.old
+        → Tells (named_by_all k.now.types.now (declarators_in (typed_external_view one.now all)))
+        start out.new }
 {
     match one {
         TypedExternal::Declaration(d) => declaration(out, k, d),
@@ -141,7 +156,8 @@ fn external(out: &mut Names, k: &Scope<'_>, one: &TypedExternal)
 
 /// The declarators of a unit.
 pub(crate) fn externals(out: &mut Names, k: &Scope<'_>, all: &[TypedExternal])
-    ensures { Tells (named_by_all k.now.types.now (declarators_in (added typed.NoExternal (map typed_external_view all.now)))) out.old out.new }
+    ensures { Tells (named_by_all k.now.types.now (declarators_in
+        (added typed.NoExternal (map typed_external_view all.now)))) out.old out.new }
 {
     for one in all {
         external(out, k, one)

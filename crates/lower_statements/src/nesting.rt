@@ -30,7 +30,8 @@ pub(crate) fn in_loop(v: Nesting) -> Nesting
 /// Inside the block that a `switch` is.
 #[tactic(auto, unfolding(crate::specs::Switches::capped))]
 pub(crate) fn in_switch(out: &mut Draft, v: Nesting) -> Nesting
-    ensures room { Grows (When (Nests (nesting_of v)) (Line [])) (Nests (nesting_of v)) out.old out.new }
+    ensures room { Grows (When (Nests (nesting_of v)) (Line []))
+        (Nests (nesting_of v)) out.old out.new }
     ensures nesting { nesting_of result ≡ capped (nesting_of v) }
 {
     if v.continues < u32::MAX && v.switches < u8::MAX {

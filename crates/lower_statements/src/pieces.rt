@@ -30,7 +30,8 @@ fn put_whole(out: &mut Draft, fine: bool, ready: bool, one: Instr)
 
 /// Appends a block.
 pub(crate) fn put_block(out: &mut Draft, inner: Draft)
-    ensures { Grows (When (inner.fine ≡ true) (Line (instr.Block (record { 0 = inner.items }) ∷ []))) (inner.ready ≡ true) out.old out.new }
+    ensures { Grows (When (inner.fine ≡ true) (Line (instr.Block
+        (record { 0 = inner.items }) ∷ []))) (inner.ready ≡ true) out.old out.new }
 {
     put_whole(
         out,
@@ -42,14 +43,16 @@ pub(crate) fn put_block(out: &mut Draft, inner: Draft)
 
 /// Appends a loop.
 pub(crate) fn put_loop(out: &mut Draft, round: Draft)
-    ensures { Grows (When (round.fine ≡ true) (Line (instr.Loop (record { 0 = round.items }) ∷ []))) (round.ready ≡ true) out.old out.new }
+    ensures { Grows (When (round.fine ≡ true) (Line (instr.Loop (record { 0 = round.items }) ∷ [])))
+        (round.ready ≡ true) out.old out.new }
 {
     put_whole(out, round.fine, round.ready, Instr::Loop(Code(round.items)))
 }
 
 /// Leaves the loop where value 0 is false.
 fn leave_unless(out: &mut Draft, k: &Scope<'_>)
-    ensures { Grows (Choice (value 0) (Line []) (Line (instr.Break 0 ∷ []))) (Unit {0}) out.old out.new }
+    ensures { Grows (Choice (value 0) (Line []) (Line (instr.Break 0 ∷ [])))
+        (Unit {0}) out.old out.new }
 {
     let then = start(k);
     let mut otherwise = start(k);
@@ -59,7 +62,8 @@ fn leave_unless(out: &mut Draft, k: &Scope<'_>)
 
 /// Appends the code of a loop's condition, which leaves the loop where it fails.
 pub(crate) fn test(out: &mut Draft, k: &Scope<'_>, c: &TypedExpr)
-    ensures { Grows (IsCodeOfTest (Some (typed_expr_view c.now)) (context_of k.now)) (HasCodeOfTest (Some (typed_expr_view c.now)) (context_of k.now)) out.old out.new }
+    ensures { Grows (IsCodeOfTest (Some (typed_expr_view c.now)) (context_of k.now))
+        (HasCodeOfTest (Some (typed_expr_view c.now)) (context_of k.now)) out.old out.new }
 {
     expr(out, k, 0, c);
     leave_unless(out, k)
@@ -67,7 +71,8 @@ pub(crate) fn test(out: &mut Draft, k: &Scope<'_>, c: &TypedExpr)
 
 /// The same of a condition that may be missing.
 pub(crate) fn condition(out: &mut Draft, k: &Scope<'_>, c: &Option<TypedExpr>)
-    ensures { Grows (IsCodeOfTest (option_map typed_expr_view c.now) (context_of k.now)) (HasCodeOfTest (option_map typed_expr_view c.now) (context_of k.now)) out.old out.new }
+    ensures { Grows (IsCodeOfTest (option_map typed_expr_view c.now) (context_of k.now))
+        (HasCodeOfTest (option_map typed_expr_view c.now) (context_of k.now)) out.old out.new }
 {
     match c {
         None => keep(out),
@@ -77,7 +82,8 @@ pub(crate) fn condition(out: &mut Draft, k: &Scope<'_>, c: &Option<TypedExpr>)
 
 /// Appends the code of an expression, where there is one, for what it does.
 pub(crate) fn effect(out: &mut Draft, k: &Scope<'_>, e: &Option<TypedExpr>)
-    ensures { Grows (IsCodeOfEffect (option_map typed_expr_view e.now) (context_of k.now)) (HasCodeOfEffect (option_map typed_expr_view e.now) (context_of k.now)) out.old out.new }
+    ensures { Grows (IsCodeOfEffect (option_map typed_expr_view e.now) (context_of k.now))
+        (HasCodeOfEffect (option_map typed_expr_view e.now) (context_of k.now)) out.old out.new }
 {
     match e {
         None => keep(out),
@@ -87,7 +93,8 @@ pub(crate) fn effect(out: &mut Draft, k: &Scope<'_>, e: &Option<TypedExpr>)
 
 /// Appends the code that leaves the function with value 0, which is that of the expression.
 pub(crate) fn put_return(out: &mut Draft, e: &TypedExpr, place: Place)
-    ensures { Grows (Line (instr.ReturnValue (value 0) (type_of (typed_expr_view e.now)) place ∷ [])) (Unit {0}) out.old out.new }
+    ensures { Grows (Line (instr.ReturnValue (value 0)
+        (type_of (typed_expr_view e.now)) place ∷ [])) (Unit {0}) out.old out.new }
 {
     put(
         out,

@@ -35,7 +35,8 @@ pub(crate) struct Labels {
 #[tactic(auto, using(crate::proofs::Rules::label_rules))]
 fn with_item(before: Labels, item: &TypedBlockItem) -> Labels
     requires { before.count < 18446744073709551615 }
-    ensures labels { (all : TypedBlockItems) → AreLabels all before → AreLabels (typed_block_item_view item.now all) result }
+    ensures labels { (all : TypedBlockItems) → AreLabels all before
+        → AreLabels (typed_block_item_view item.now all) result }
     ensures few { result.count ≤ suc before.count }
 {
     match item {
@@ -69,7 +70,8 @@ fn labels_in(items: &[TypedBlockItem]) -> Labels
 
 /// Appends nothing: a block has no more labels than items, and fewer than 2^64 - 1 of these, so that its labels have numbers.
 pub(crate) fn labels_fit(out: &mut Draft, items: &[TypedBlockItem])
-    ensures { Grows (When (IsFew (typed_block_view items.now)) (Line [])) (Unit {0}) out.old out.new }
+    ensures { Grows (When (IsFew (typed_block_view items.now)) (Line []))
+        (Unit {0}) out.old out.new }
 {
     if labels_in(items).count < usize::MAX {
         keep(out)
@@ -92,7 +94,10 @@ fn otherwise(items: &[TypedBlockItem]) -> i128
 /// Appends what begins a `switch` inside so many others, behind its value: the label is that of `default` at first.
 #[tactic(auto, using(lower_exprs::proofs::Laws::grows_line))]
 pub(crate) fn put_begin(out: &mut Draft, n: u8, e: &TypedExpr, items: &[TypedBlockItem])
-    ensures { Grows (Line (instr.Convert (convert.Integer work (value 0) (type_of (typed_expr_view e.now))) ∷ instr.Set (set.Integer (label_of n) (pos (otherwise (typed_block_view items.now))) unsigned_long) ∷ [])) (Unit {0}) out.old out.new }
+    ensures { Grows (Line (instr.Convert (convert.Integer work (value 0)
+        (type_of (typed_expr_view e.now))) ∷ instr.Set
+        (set.Integer (label_of n) (pos (otherwise (typed_block_view items.now))) unsigned_long) ∷
+        [])) (Unit {0}) out.old out.new }
 {
     put(
         out,
@@ -107,7 +112,8 @@ pub(crate) fn put_begin(out: &mut Draft, n: u8, e: &TypedExpr, items: &[TypedBlo
 
 /// Appends the instruction that sets a temporary to the number of a label.
 fn put_number(out: &mut Draft, into: Temp, value: i128)
-    ensures { Grows (Line (instr.Set (set.Integer into value unsigned_long) ∷ [])) (Unit {0}) out.old out.new }
+    ensures { Grows (Line (instr.Set (set.Integer into value unsigned_long) ∷ []))
+        (Unit {0}) out.old out.new }
 {
     put(
         out,
@@ -121,7 +127,8 @@ fn put_number(out: &mut Draft, into: Temp, value: i128)
 
 /// Appends the instruction that keeps the number of the label where the `switch` begins.
 fn put_label(out: &mut Draft, n: u8, label: usize)
-    ensures { Grows (Line (instr.Set (set.Integer (label_of n) (pos label) unsigned_long) ∷ [])) (Unit {0}) out.old out.new }
+    ensures { Grows (Line (instr.Set (set.Integer (label_of n) (pos label) unsigned_long) ∷ []))
+        (Unit {0}) out.old out.new }
 {
     put_number(out, Temp::Switch(n), i128::from(label as u64))
 }
@@ -136,7 +143,12 @@ pub(crate) struct Switch {
 
 /// The `switch` with this value, nested so.
 pub(crate) fn switch_of(v: Nesting, e: &TypedExpr, at: Place) -> Switch
-    ensures { result ≡ record { switches = v.switches; ty = type_of (typed_expr_view e.now); at = at } }
+    ensures { result ≡ record {
+      switches = v.switches;
+      ty = type_of
+          (typed_expr_view e.now);
+      at = at;
+    } }
 {
     Switch {
         switches: v.switches,
@@ -199,7 +211,8 @@ fn put_test(out: &mut Draft, k: &Scope<'_>, s: Switch, label: usize, item: &Type
 /// How many labels are before an item, from how many there are up to it.
 #[tactic(auto, using(crate::proofs::Rules::label_rules))]
 fn before(count: usize, item: &TypedBlockItem) -> usize
-    ensures { (all : TypedBlockItems) → count ≡ labels (typed_block_item_view item.now all) → result ≡ labels all }
+    ensures { (all : TypedBlockItems) → count ≡ labels (typed_block_item_view item.now all) → result
+        ≡ labels all }
 {
     match item {
         TypedBlockItem::Statement(_) => count,
@@ -211,7 +224,8 @@ fn before(count: usize, item: &TypedBlockItem) -> usize
 
 /// Appends the choices of labels by value 0. The last label is tried first.
 pub(crate) fn put_tests(out: &mut Draft, k: &Scope<'_>, s: Switch, items: &[TypedBlockItem])
-    ensures { Grows (IsCodeOfTests (typed_block_view items.now) s.switches s.ty s.at) (Unit {0}) out.old out.new }
+    ensures { Grows (IsCodeOfTests (typed_block_view items.now) s.switches s.ty s.at)
+        (Unit {0}) out.old out.new }
 {
     let mut label = labels_in(items).count;
     for i in (0..items.len()).rev() {

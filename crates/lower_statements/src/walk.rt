@@ -19,7 +19,9 @@ use lower_initialisers::declaration;
 #[cycle(statements)]
 #[tactic(auto, using(crate::proofs::Rules::nothing_rules))]
 pub fn block(out: &mut Draft, k: &Scope<'_>, v: Nesting, items: &[TypedBlockItem])
-    ensures { Grows (IsCodeOfBlock (typed_block_view items.now) (context_of k.now) (nesting_of v)) (HasCodeOfBlock (typed_block_view items.now) (context_of k.now) (nesting_of v)) out.old out.new }
+    ensures { Grows (IsCodeOfBlock (typed_block_view items.now) (context_of k.now) (nesting_of v))
+        (HasCodeOfBlock (typed_block_view items.now) (context_of k.now) (nesting_of v)) out.old
+        out.new }
 {
     for item in items {
         match item {
@@ -34,7 +36,8 @@ pub fn block(out: &mut Draft, k: &Scope<'_>, v: Nesting, items: &[TypedBlockItem
 /// Appends the pieces of a `switch`, each with its guard.
 #[cycle(statements)]
 fn pieces(out: &mut Draft, k: &Scope<'_>, v: Nesting, at: Place, items: &[TypedBlockItem])
-    ensures { Grows (Pieces (typed_block_view items.now) (context_of k.now) (nesting_of v) at) (HasPieces (typed_block_view items.now) (context_of k.now) (nesting_of v)) out.old out.new }
+    ensures { Grows (Pieces (typed_block_view items.now) (context_of k.now) (nesting_of v) at)
+        (HasPieces (typed_block_view items.now) (context_of k.now) (nesting_of v)) out.old out.new }
 {
     let mut last = start(k);
     let mut label = 0;
@@ -61,7 +64,9 @@ fn pieces(out: &mut Draft, k: &Scope<'_>, v: Nesting, at: Place, items: &[TypedB
 /// Appends the code of a statement, which begins at value 0 and keeps no value.
 #[cycle(statements)]
 pub fn statement(out: &mut Draft, k: &Scope<'_>, v: Nesting, s: &TypedStatement)
-    ensures { Grows (IsCodeOfStatement (typed_statement_view s.now) (context_of k.now) (nesting_of v)) (HasCodeOfStatement (typed_statement_view s.now) (context_of k.now) (nesting_of v)) out.old out.new }
+    ensures { Grows (IsCodeOfStatement (typed_statement_view s.now) (context_of k.now)
+        (nesting_of v)) (HasCodeOfStatement (typed_statement_view s.now) (context_of k.now)
+        (nesting_of v)) out.old out.new }
 {
     match s {
         TypedStatement::Block(_, items) => block(out, k, v, items.as_slice()),

@@ -63,7 +63,8 @@ fn place_of(name: Option<&Identifier>) -> Place
 /// `main` among functions, where one more has this number.
 #[tactic(auto, using(crate::proofs::MainLaws::main_rules))]
 fn main_with(found: Option<Found>, number: usize, f: &TypedFunction) -> Option<Found>
-    ensures { (fs : List DefinedFunction) → number ≡ length fs → IsMainOf fs found → IsMainOf (fs ++ function_seen f.now ∷ []) result }
+    ensures { (fs : List DefinedFunction) → number ≡ length fs → IsMainOf fs found
+        → IsMainOf (fs ++ function_seen f.now ∷ []) result }
 {
     match found {
         Some(main) => Some(main),
@@ -84,7 +85,10 @@ fn main_with(found: Option<Found>, number: usize, f: &TypedFunction) -> Option<F
 /// A function behind others.
 fn add(made: &mut Made, k: &Unit<'_>, f: &TypedFunction) -> Result<(), NoMemory>
     requires { HasCodeOfFunction k.now.types.now k.now.statics.now.keys (function_seen f.now) }
-    ensures { (all : typed.TypedTranslationUnit) → OnOk result (IsMade k.now.types.now k.now.statics.now.keys all made.old → IsMade k.now.types.now k.now.statics.now.keys (typed_external_view (external.Function f.now) all) made.new) }
+    ensures { (all : typed.TypedTranslationUnit) → OnOk result
+        (IsMade k.now.types.now k.now.statics.now.keys all made.old
+        → IsMade k.now.types.now k.now.statics.now.keys
+        (typed_external_view (external.Function f.now) all) made.new) }
 {
     let number = made.functions.as_slice().len();
     let one = function(k, f)?;
@@ -95,8 +99,12 @@ fn add(made: &mut Made, k: &Unit<'_>, f: &TypedFunction) -> Result<(), NoMemory>
 
 /// A declaration or a function behind others.
 fn external(made: &mut Made, k: &Unit<'_>, one: &TypedExternal) -> Result<(), NoMemory>
-    requires { All (HasCodeOfFunction k.now.types.now k.now.statics.now.keys) (functions_of (typed_external_view one.now typed.NoExternal)) }
-    ensures { (all : typed.TypedTranslationUnit) → OnOk result (IsMade k.now.types.now k.now.statics.now.keys all made.old → IsMade k.now.types.now k.now.statics.now.keys (typed_external_view one.now all) made.new) }
+    requires { All (HasCodeOfFunction k.now.types.now k.now.statics.now.keys)
+        (functions_of (typed_external_view one.now typed.NoExternal)) }
+    ensures { (all : typed.TypedTranslationUnit) → OnOk result
+        (IsMade k.now.types.now k.now.statics.now.keys all made.old
+        → IsMade k.now.types.now k.now.statics.now.keys
+        (typed_external_view one.now all) made.new) }
 {
     match one {
         TypedExternal::Declaration(_) => Ok(()),
@@ -106,8 +114,10 @@ fn external(made: &mut Made, k: &Unit<'_>, one: &TypedExternal) -> Result<(), No
 
 /// The code of the functions of a unit.
 pub(crate) fn functions(k: &Unit<'_>, all: &[TypedExternal]) -> Result<Made, NoMemory>
-    requires { All (HasCodeOfFunction k.now.types.now k.now.statics.now.keys) (functions_of (added typed.NoExternal (map typed_external_view all.now))) }
-    ensures { IfOk result (λ made. IsMade k.now.types.now k.now.statics.now.keys (added typed.NoExternal (map typed_external_view all.now)) made) }
+    requires { All (HasCodeOfFunction k.now.types.now k.now.statics.now.keys)
+        (functions_of (added typed.NoExternal (map typed_external_view all.now))) }
+    ensures { IfOk result (λ made. IsMade k.now.types.now k.now.statics.now.keys
+        (added typed.NoExternal (map typed_external_view all.now)) made) }
 {
     let mut made = Made {
         functions: Vec::new(k.alloc),

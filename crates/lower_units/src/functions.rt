@@ -37,7 +37,8 @@ pub(crate) struct Unit<'a> {
 /// The local variables of a body, in the order of the text.
 #[tactic(auto, using(crate::proofs::HeadLaws::locals_found))]
 fn locals_of(k: &Unit<'_>, body: &[TypedBlockItem]) -> Result<Locals, NoMemory>
-    ensures { IfOk result (λ locals. map plan locals ≡ locals_from (made_by_block_items (typed_block_view body.now))) }
+    ensures { IfOk result (λ locals. map plan locals
+        ≡ locals_from (made_by_block_items (typed_block_view body.now))) }
 {
     let scope = unit_parts::Scope {
         alloc: k.alloc,
@@ -56,7 +57,8 @@ fn locals_of(k: &Unit<'_>, body: &[TypedBlockItem]) -> Result<Locals, NoMemory>
 /// The code of a body in its function.
 fn body_of(scope: &Scope<'_>, body: &[TypedBlockItem]) -> Result<Code, NoMemory>
     requires { HasCodeOfBlock (typed_block_view body.now) (context_of scope.now) outermost }
-    ensures { IfOk result (λ code. IsCodeOfBlock (typed_block_view body.now) (context_of scope.now) outermost code.0.items) }
+    ensures { IfOk result (λ code. IsCodeOfBlock (typed_block_view body.now)
+        (context_of scope.now) outermost code.0.items) }
 {
     let mut out = start(scope);
     let nesting = Nesting {
@@ -71,7 +73,8 @@ fn body_of(scope: &Scope<'_>, body: &[TypedBlockItem]) -> Result<Code, NoMemory>
 /// The code of a function.
 pub(crate) fn function(k: &Unit<'_>, f: &TypedFunction) -> Result<Function, NoMemory>
     requires { HasCodeOfFunction k.now.types.now k.now.statics.now.keys (function_seen f.now) }
-    ensures { IfOk result (λ made. IsCodeOfFunction k.now.types.now k.now.statics.now.keys (function_seen f.now) made) }
+    ensures { IfOk result (λ made. IsCodeOfFunction k.now.types.now k.now.statics.now.keys
+        (function_seen f.now) made) }
 {
     let body = f.body.as_slice();
     let parameters = parameters_of(k.alloc, &f.declarator)?;

@@ -12,7 +12,8 @@ use std::alloc::Global;
 
 /// Adds the homes of planned objects.
 fn add_planned(homes: &mut IndexSet<NodeId>, all: &[Planned]) -> Result<(), NoMemory>
-    ensures { OnOk result (homes.new.keys ≡ insert_all same_node homes.old.keys (homes_of_planned all.now)) }
+    ensures { OnOk result (homes.new.keys ≡ insert_all same_node homes.old.keys
+        (homes_of_planned all.now)) }
 {
     for one in all {
         homes.insert(one.home)?;
@@ -22,7 +23,8 @@ fn add_planned(homes: &mut IndexSet<NodeId>, all: &[Planned]) -> Result<(), NoMe
 
 /// Adds the home of a parameter, if it has a name.
 fn add_parameter(homes: &mut IndexSet<NodeId>, one: &Parameter) -> Result<(), NoMemory>
-    ensures { OnOk result (homes.new.keys ≡ insert_all same_node homes.old.keys (homes_of_parameters (one.now ∷ []))) }
+    ensures { OnOk result (homes.new.keys ≡ insert_all same_node homes.old.keys
+        (homes_of_parameters (one.now ∷ []))) }
 {
     match one.home {
         Some(home) => {
@@ -35,7 +37,8 @@ fn add_parameter(homes: &mut IndexSet<NodeId>, one: &Parameter) -> Result<(), No
 
 /// Adds the homes of parameters that have names.
 fn add_parameters(homes: &mut IndexSet<NodeId>, all: &[Parameter]) -> Result<(), NoMemory>
-    ensures { OnOk result (homes.new.keys ≡ insert_all same_node homes.old.keys (homes_of_parameters all.now)) }
+    ensures { OnOk result (homes.new.keys ≡ insert_all same_node homes.old.keys
+        (homes_of_parameters all.now)) }
 {
     for one in all {
         add_parameter(homes, one)?;
@@ -45,7 +48,8 @@ fn add_parameters(homes: &mut IndexSet<NodeId>, all: &[Parameter]) -> Result<(),
 
 /// Adds the homes of static objects.
 fn add_statics(homes: &mut IndexSet<NodeId>, all: &[Static]) -> Result<(), NoMemory>
-    ensures { OnOk result (homes.new.keys ≡ insert_all same_node homes.old.keys (homes_of_statics all.now)) }
+    ensures { OnOk result (homes.new.keys ≡ insert_all same_node homes.old.keys
+        (homes_of_statics all.now)) }
 {
     for one in all {
         homes.insert(one.planned.home)?;
@@ -60,7 +64,8 @@ pub(crate) fn variable_homes(
     locals: &[Planned],
 ) -> Result<IndexSet<NodeId>, NoMemory>
     requires { AreApart (homes_of_parameters parameters.now ++ homes_of_planned locals.now) }
-    ensures { IfOk result (λ homes. homes.keys ≡ homes_of_parameters parameters.now ++ homes_of_planned locals.now) }
+    ensures { IfOk result (λ homes. homes.keys ≡ homes_of_parameters parameters.now ++
+        homes_of_planned locals.now) }
 {
     let mut homes = IndexSet::new(alloc);
     add_parameters(&mut homes, parameters)?;

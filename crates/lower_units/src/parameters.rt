@@ -26,7 +26,8 @@ fn unless_starred<'a>(stars: &[TypedStar], outer: &'a [TypedParameter]) -> &'a [
 /// The parameters of the part that stands nearest to the name.
 #[tactic(auto, using(c_tree::proofs::PushLaws::pushes))]
 fn nearest<'a>(parts: &'a [TypedPart], outer: &'a [TypedParameter]) -> &'a [TypedParameter]
-    ensures { parameters_seen result.now ≡ nearest_parameters (added typed.NoPart (map typed_part_view parts.now)) (parameters_seen outer.now) }
+    ensures { parameters_seen result.now ≡ nearest_parameters
+        (added typed.NoPart (map typed_part_view parts.now)) (parameters_seen outer.now) }
 {
     let mut found = outer;
     let mut rest = parts;
@@ -40,7 +41,9 @@ fn nearest<'a>(parts: &'a [TypedPart], outer: &'a [TypedParameter]) -> &'a [Type
 /// The parameters of a part, which hide those of the parts behind it.
 #[tactic(auto, using(c_tree::proofs::TypedViewLaws::typed_views))]
 fn of_part(part: &TypedPart) -> &[TypedParameter]
-    ensures { (all : typed.TypedParts) (outer : typed.TypedParameters) → nearest_parameters (typed_part_view part.now all) outer ≡ nearest_parameters all (parameters_seen result.now) }
+    ensures { (all : typed.TypedParts) (outer : typed.TypedParameters)
+        → nearest_parameters (typed_part_view part.now all) outer
+        ≡ nearest_parameters all (parameters_seen result.now) }
 {
     match part {
         TypedPart::Array(_, _) => &[],
@@ -53,7 +56,8 @@ fn of_part(part: &TypedPart) -> &[TypedParameter]
 #[cycle(parameters)]
 #[tactic(auto, using(c_tree::proofs::TypedViewLaws::typed_views))]
 fn in_form<'a>(form: &'a TypedForm, outer: &'a [TypedParameter]) -> &'a [TypedParameter]
-    ensures { parameters_seen result.now ≡ parameters_in_form (typed_form_view form.now) (parameters_seen outer.now) }
+    ensures { parameters_seen result.now ≡ parameters_in_form (typed_form_view form.now)
+        (parameters_seen outer.now) }
 {
     let own = unless_starred(form.stars.as_slice(), outer);
     let found = nearest(form.parts.as_slice(), own);
@@ -63,7 +67,8 @@ fn in_form<'a>(form: &'a TypedForm, outer: &'a [TypedParameter]) -> &'a [TypedPa
 #[cycle(parameters)]
 #[tactic(auto, using(c_tree::proofs::TypedViewLaws::typed_views))]
 fn in_core<'a>(core: &'a TypedCore, found: &'a [TypedParameter]) -> &'a [TypedParameter]
-    ensures { parameters_seen result.now ≡ parameters_in_core (typed_core_view core.now) (parameters_seen found.now) }
+    ensures { parameters_seen result.now ≡ parameters_in_core (typed_core_view core.now)
+        (parameters_seen found.now) }
 {
     match core {
         TypedCore::Names(_, _) => found,
@@ -75,7 +80,8 @@ fn in_core<'a>(core: &'a TypedCore, found: &'a [TypedParameter]) -> &'a [TypedPa
 /// Whether specifiers are the word `void` by itself.
 #[tactic(auto, using(c_tree::proofs::TypedViewLaws::typed_views, c_tree::proofs::TypedPushLaws::typed_pushes))]
 fn is_void_word(specifiers: &[TypedSpecifier]) -> bool
-    ensures { result ≡ is_void_word (typed_specifiers_of (map typed_specifier_view specifiers.now)) }
+    ensures { result ≡ is_void_word (typed_specifiers_of
+        (map typed_specifier_view specifiers.now)) }
 {
     let Some((last, before)) = specifiers.split_last() else {
         return false;
@@ -100,7 +106,8 @@ fn is_void_itself(one: &TypedParameter) -> bool
 /// Of two parameters none is `void`.
 #[tactic(auto, using(c_tree::proofs::TypedViewLaws::typed_views))]
 fn is_void_behind(last: &TypedParameter, other: &TypedParameter) -> bool
-    ensures { (all : typed.TypedParameters) → result ≡ is_void_list (typed_parameter_view last.now (typed_parameter_view other.now all)) }
+    ensures { (all : typed.TypedParameters) → result ≡ is_void_list
+        (typed_parameter_view last.now (typed_parameter_view other.now all)) }
 {
     let (_last, _other) = (last.ty, other.ty);
     false
@@ -122,7 +129,8 @@ fn is_void_alone(parameters: &[TypedParameter]) -> bool
 
 /// The home of a parameter that has a name.
 fn named_home(form: &Option<TypedForm>) -> Option<NodeId>
-    ensures { result ≡ parameter_home (declared_home (typed_declared_of (option_map typed_form_view form.now))) }
+    ensures { result ≡ parameter_home (declared_home
+        (typed_declared_of (option_map typed_form_view form.now))) }
 {
     match form {
         Some(form) => match home_of(form) {
@@ -139,7 +147,9 @@ fn named_home(form: &Option<TypedForm>) -> Option<NodeId>
 /// A parameter behind others.
 #[tactic(auto, using(c_tree::proofs::TypedViewLaws::typed_views))]
 fn add(out: &mut Vec<Parameter>, one: &TypedParameter) -> Result<(), NoMemory>
-    ensures { (all : typed.TypedParameters) → OnOk result (map taken_as out.old.items ≡ parameter_objects all → map taken_as out.new.items ≡ parameter_objects (typed_parameter_view one.now all)) }
+    ensures { (all : typed.TypedParameters) → OnOk result
+        (map taken_as out.old.items ≡ parameter_objects all → map taken_as out.new.items
+        ≡ parameter_objects (typed_parameter_view one.now all)) }
 {
     let home = named_home(&one.declarator);
     out.push(Parameter { ty: one.ty, home })?;
@@ -149,7 +159,8 @@ fn add(out: &mut Vec<Parameter>, one: &TypedParameter) -> Result<(), NoMemory>
 /// Parameters in order.
 #[tactic(auto, using(c_tree::proofs::PushLaws::pushes))]
 fn listed(alloc: Global, parameters: &[TypedParameter]) -> Result<Parameters, NoMemory>
-    ensures { IfOk result (λ all. map taken_as all ≡ parameter_objects (parameters_seen parameters.now)) }
+    ensures { IfOk result (λ all. map taken_as all
+        ≡ parameter_objects (parameters_seen parameters.now)) }
 {
     let mut all = Vec::new(alloc);
     for one in parameters {

@@ -37,7 +37,8 @@ pub(crate) fn declared_type(d: &TypedDeclarator) -> TypeId
 
 /// Appends nothing, as there are no initialisers.
 fn skip(out: &mut Draft, k: &Scope<'_>)
-    ensures { Grows (IsCodeOfStatics [] (context_of k.now)) (HaveCodeOfStatics [] (context_of k.now)) out.old out.new }
+    ensures { Grows (IsCodeOfStatics [] (context_of k.now))
+        (HaveCodeOfStatics [] (context_of k.now)) out.old out.new }
 {
     let _ = k;
     keep(out)
@@ -45,7 +46,12 @@ fn skip(out: &mut Draft, k: &Scope<'_>)
 
 /// Appends the code of the initialiser of what a declarator declares, if that lives as long as the program.
 fn initialised(out: &mut Draft, k: &Scope<'_>, d: &TypedDeclarator, at: Place, i: &TypedInitialiser)
-    ensures { Grows (IsCodeOfStatics (initialises (static_home (home_of (typed_declarator_view d.now))) (declared_type (typed_declarator_view d.now)) at (typed_initialiser_view i.now)) (context_of k.now)) (HaveCodeOfStatics (initialises (static_home (home_of (typed_declarator_view d.now))) (declared_type (typed_declarator_view d.now)) at (typed_initialiser_view i.now)) (context_of k.now)) out.old out.new }
+    ensures { Grows (IsCodeOfStatics (initialises (static_home
+        (home_of (typed_declarator_view d.now))) (declared_type (typed_declarator_view d.now)) at
+        (typed_initialiser_view i.now)) (context_of k.now))
+        (HaveCodeOfStatics (initialises (static_home (home_of (typed_declarator_view d.now)))
+        (declared_type (typed_declarator_view d.now)) at (typed_initialiser_view i.now))
+        (context_of k.now)) out.old out.new }
 {
     match declared_home(d) {
         Home::None => skip(out, k),
@@ -58,7 +64,13 @@ fn initialised(out: &mut Draft, k: &Scope<'_>, d: &TypedDeclarator, at: Place, i
 
 /// A declarator behind others.
 fn declarator(out: &mut Draft, k: &Scope<'_>, one: &TypedInitDeclarator)
-    ensures { (all : typed.TypedInitDeclarators) (start : Seen) → Grows (IsCodeOfStatics (initialisers_in_declarators all) (context_of k.now)) (HaveCodeOfStatics (initialisers_in_declarators all) (context_of k.now)) start out.old → Grows (IsCodeOfStatics (initialisers_in_declarators (typed_init_declarator_view one.now all)) (context_of k.now)) (HaveCodeOfStatics (initialisers_in_declarators (typed_init_declarator_view one.now all)) (context_of k.now)) start out.new }
+    ensures { (all : typed.TypedInitDeclarators) (start : Seen)
+        → Grows (IsCodeOfStatics (initialisers_in_declarators all) (context_of k.now))
+        (HaveCodeOfStatics (initialisers_in_declarators all) (context_of k.now)) start out.old
+        → Grows (IsCodeOfStatics (initialisers_in_declarators
+        (typed_init_declarator_view one.now all)) (context_of k.now))
+        (HaveCodeOfStatics (initialisers_in_declarators (typed_init_declarator_view one.now all))
+        (context_of k.now)) start out.new }
 {
     match one {
         TypedInitDeclarator::Plain(_) => skip(out, k),
@@ -67,7 +79,11 @@ fn declarator(out: &mut Draft, k: &Scope<'_>, one: &TypedInitDeclarator)
 }
 
 fn declarators(out: &mut Draft, k: &Scope<'_>, all: &[TypedInitDeclarator])
-    ensures { Grows (IsCodeOfStatics (initialisers_in_declarators (added typed.NoInitDeclarator (map typed_init_declarator_view all.now))) (context_of k.now)) (HaveCodeOfStatics (initialisers_in_declarators (added typed.NoInitDeclarator (map typed_init_declarator_view all.now))) (context_of k.now)) out.old out.new }
+    ensures { Grows (IsCodeOfStatics (initialisers_in_declarators
+        (added typed.NoInitDeclarator (map typed_init_declarator_view all.now))) (context_of k.now))
+        (HaveCodeOfStatics (initialisers_in_declarators
+        (added typed.NoInitDeclarator (map typed_init_declarator_view all.now))) (context_of k.now))
+        out.old out.new }
 {
     for one in all {
         declarator(out, k, one)
@@ -76,7 +92,9 @@ fn declarators(out: &mut Draft, k: &Scope<'_>, all: &[TypedInitDeclarator])
 
 /// A declaration.
 fn declaration(out: &mut Draft, k: &Scope<'_>, one: &TypedDeclaration)
-    ensures { Grows (IsCodeOfStatics (initialisers_in_declaration (typed_declaration_view one.now)) (context_of k.now)) (HaveCodeOfStatics (initialisers_in_declaration (typed_declaration_view one.now)) (context_of k.now)) out.old out.new }
+    ensures { Grows (IsCodeOfStatics (initialisers_in_declaration (typed_declaration_view one.now))
+        (context_of k.now)) (HaveCodeOfStatics (initialisers_in_declaration
+        (typed_declaration_view one.now)) (context_of k.now)) out.old out.new }
 {
     declarators(out, k, one.declarators.as_slice())
 }
@@ -84,7 +102,9 @@ fn declaration(out: &mut Draft, k: &Scope<'_>, one: &TypedDeclaration)
 /// A statement.
 #[cycle(statics)]
 fn statement(out: &mut Draft, k: &Scope<'_>, one: &TypedStatement)
-    ensures { Grows (IsCodeOfStatics (initialisers_in (typed_statement_view one.now)) (context_of k.now)) (HaveCodeOfStatics (initialisers_in (typed_statement_view one.now)) (context_of k.now)) out.old out.new }
+    ensures { Grows (IsCodeOfStatics (initialisers_in (typed_statement_view one.now))
+        (context_of k.now)) (HaveCodeOfStatics (initialisers_in (typed_statement_view one.now))
+        (context_of k.now)) out.old out.new }
 {
     match one {
         TypedStatement::Block(_, items) => block(out, k, items.as_slice()),
@@ -112,7 +132,9 @@ fn statement(out: &mut Draft, k: &Scope<'_>, one: &TypedStatement)
 /// What a block holds.
 #[cycle(statics)]
 fn block(out: &mut Draft, k: &Scope<'_>, all: &[TypedBlockItem])
-    ensures { Grows (IsCodeOfStatics (initialisers_in_items (typed_block_view all.now)) (context_of k.now)) (HaveCodeOfStatics (initialisers_in_items (typed_block_view all.now)) (context_of k.now)) out.old out.new }
+    ensures { Grows (IsCodeOfStatics (initialisers_in_items (typed_block_view all.now))
+        (context_of k.now)) (HaveCodeOfStatics (initialisers_in_items (typed_block_view all.now))
+        (context_of k.now)) out.old out.new }
 {
     for one in all {
         block_item(out, k, one)
@@ -122,7 +144,12 @@ fn block(out: &mut Draft, k: &Scope<'_>, all: &[TypedBlockItem])
 /// An item of a block behind others.
 #[cycle(statics)]
 fn block_item(out: &mut Draft, k: &Scope<'_>, one: &TypedBlockItem)
-    ensures { (all : typed.TypedBlockItems) (start : Seen) → Grows (IsCodeOfStatics (initialisers_in_items all) (context_of k.now)) (HaveCodeOfStatics (initialisers_in_items all) (context_of k.now)) start out.old → Grows (IsCodeOfStatics (initialisers_in_items (typed_block_item_view one.now all)) (context_of k.now)) (HaveCodeOfStatics (initialisers_in_items (typed_block_item_view one.now all)) (context_of k.now)) start out.new }
+    ensures { (all : typed.TypedBlockItems) (start : Seen)
+        → Grows (IsCodeOfStatics (initialisers_in_items all) (context_of k.now))
+        (HaveCodeOfStatics (initialisers_in_items all) (context_of k.now)) start out.old
+        → Grows (IsCodeOfStatics (initialisers_in_items (typed_block_item_view one.now all))
+        (context_of k.now)) (HaveCodeOfStatics (initialisers_in_items
+        (typed_block_item_view one.now all)) (context_of k.now)) start out.new }
 {
     match one {
         TypedBlockItem::Statement(s) => statement(out, k, s),
@@ -134,7 +161,12 @@ fn block_item(out: &mut Draft, k: &Scope<'_>, one: &TypedBlockItem)
 
 /// A declaration or a function, behind what comes before it.
 fn external(out: &mut Draft, k: &Scope<'_>, one: &TypedExternal)
-    ensures { (all : typed.TypedTranslationUnit) (start : Seen) → Grows (IsCodeOfStatics (static_initialisers all) (context_of k.now)) (HaveCodeOfStatics (static_initialisers all) (context_of k.now)) start out.old → Grows (IsCodeOfStatics (static_initialisers (typed_external_view one.now all)) (context_of k.now)) (HaveCodeOfStatics (static_initialisers (typed_external_view one.now all)) (context_of k.now)) start out.new }
+    ensures { (all : typed.TypedTranslationUnit) (start : Seen)
+        → Grows (IsCodeOfStatics (static_initialisers all) (context_of k.now))
+        (HaveCodeOfStatics (static_initialisers all) (context_of k.now)) start out.old
+        → Grows (IsCodeOfStatics (static_initialisers (typed_external_view one.now all))
+        (context_of k.now)) (HaveCodeOfStatics (static_initialisers
+        (typed_external_view one.now all)) (context_of k.now)) start out.new }
 {
     match one {
         TypedExternal::Declaration(d) => declaration(out, k, d),
@@ -144,7 +176,10 @@ fn external(out: &mut Draft, k: &Scope<'_>, one: &TypedExternal)
 
 /// Appends the code of the static initialisers of a unit, in the order of the text.
 pub(crate) fn statics(out: &mut Draft, k: &Scope<'_>, all: &[TypedExternal])
-    ensures { Grows (IsCodeOfStatics (static_initialisers (added typed.NoExternal (map typed_external_view all.now))) (context_of k.now)) (HaveCodeOfStatics (static_initialisers (added typed.NoExternal (map typed_external_view all.now))) (context_of k.now)) out.old out.new }
+    ensures { Grows (IsCodeOfStatics (static_initialisers
+        (added typed.NoExternal (map typed_external_view all.now))) (context_of k.now))
+        (HaveCodeOfStatics (static_initialisers (added typed.NoExternal
+        (map typed_external_view all.now))) (context_of k.now)) out.old out.new }
 {
     for one in all {
         external(out, k, one)

@@ -49,8 +49,10 @@ fn collected(alloc: Global, types: &Types, unit: &TypedUnit) -> Result<Collected
 
 /// The code of the static initialisers of a unit.
 fn initialisers(k: &Unit<'_>, unit: &TypedUnit) -> Result<Code, NoMemory>
-    requires { HaveCodeOfStatics (static_initialisers (typed_unit_view unit.now)) (static_context k.now.types.now k.now.statics.now.keys) }
-    ensures { IfOk result (λ code. IsCodeOfStatics (static_initialisers (typed_unit_view unit.now)) (static_context k.now.types.now k.now.statics.now.keys) code.0.items) }
+    requires { HaveCodeOfStatics (static_initialisers (typed_unit_view unit.now))
+        (static_context k.now.types.now k.now.statics.now.keys) }
+    ensures { IfOk result (λ code. IsCodeOfStatics (static_initialisers (typed_unit_view unit.now))
+        (static_context k.now.types.now k.now.statics.now.keys) code.0.items) }
 {
     let variables = IndexSet::new(k.alloc);
     let scope = Scope {
@@ -120,11 +122,13 @@ pub fn program(
     types: Types,
     nodes: u32,
 ) -> Result<Program, NoMemory>
-    requires { HasCodeOfUnit types (homes_of (typed_unit_view unit.now)) (typed_unit_view unit.now) }
+    requires { HasCodeOfUnit types (homes_of (typed_unit_view unit.now))
+        (typed_unit_view unit.now) }
     ensures code { IfOk result (λ p. IsCodeOfUnit (typed_unit_view unit.now) p) }
     ensures types { IfOk result (λ p. p.types ≡ types) }
     ensures nodes { IfOk result (λ p. p.nodes ≡ nodes) }
-    ensures pieces { IfOk result (λ p. p.sites ≡ flat_map (sites_of_piece types) (pieces_of_unit (typed_unit_view unit.now))) }
+    ensures pieces { IfOk result (λ p. p.sites ≡ flat_map (sites_of_piece types)
+        (pieces_of_unit (typed_unit_view unit.now))) }
     ensures bytes { IfOk result (λ p. HaveBytes p.statics) }
 {
     let found = collected(alloc, &types, unit)?;

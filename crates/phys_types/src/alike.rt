@@ -53,7 +53,8 @@ fn add_both(found: &mut Found, p: Option<Held>, q: Option<Held>) -> Result<(), N
 
 /// Adds the pointers that have the same number among two lists of spots.
 pub(crate) fn add_spots(found: &mut Found, xs: &[Spot], ys: &[Spot]) -> Result<(), NoMemory>
-    ensures { OnOk result (Gains (StandInTurn (IsAtSpot xs.now) (IsAtSpot ys.now)) found.old found.new) }
+    ensures { OnOk result (Gains (StandInTurn (IsAtSpot xs.now) (IsAtSpot ys.now)) found.old
+        found.new) }
 {
     'spots: for i in 0..xs.len().min(ys.len()) {
         add_both(found, pointer_at(xs[i]), pointer_at(ys[i]))?;
@@ -65,7 +66,8 @@ pub(crate) fn add_spots(found: &mut Found, xs: &[Spot], ys: &[Spot]) -> Result<(
 fn add_slots(types: &Types, found: &mut Found, ts: &[TypeId], us: &[TypeId]) -> Result<(), NoMemory>
     requires first { All (IsType types.now) ts.now }
     requires second { All (IsType types.now) us.now }
-    ensures { OnOk result (Gains (StandInTurn (IsAtSlot types.now ts.now) (IsAtSlot types.now us.now)) found.old found.new) }
+    ensures { OnOk result (Gains (StandInTurn (IsAtSlot types.now ts.now)
+        (IsAtSlot types.now us.now)) found.old found.new) }
 {
     'slots: for i in 0..ts.len().min(us.len()) {
         add_both(found, pointer_of(types, ts[i]), pointer_of(types, us[i]))?;

@@ -22,7 +22,8 @@ use std::alloc::Global;
 /// The layout that is kept of a type.
 pub(crate) fn kept<'a>(places: &[usize], built: &'a [Layout], t: TypeId) -> &'a Layout
     requires { IsKept places.now built.now t }
-    ensures { (d : Layout) → result.now ≡ slice_index_or built.now (slice_index_or places.now t.0 0) d }
+    ensures { (d : Layout) → result.now ≡ slice_index_or built.now
+        (slice_index_or places.now t.0 0) d }
 {
     &built[places[t.0 as usize]]
 }
@@ -40,7 +41,8 @@ fn raw_layout(alloc: Global, size: u64) -> Layout
 
 /// A layout of one item.
 fn item_layout(alloc: Global, item: Item, holds: bool) -> Result<Layout, NoMemory>
-    ensures { IfOk result (IsMadeOf (item_size item) (record { start = 0; item = item } ∷ []) holds) }
+    ensures { IfOk result (IsMadeOf (item_size item)
+        (record { start = 0; item = item } ∷ []) holds) }
 {
     let mut spots = Vec::new(alloc);
     spots.push(Spot { start: 0, item })?;
@@ -55,7 +57,8 @@ fn item_layout(alloc: Global, item: Item, holds: bool) -> Result<Layout, NoMemor
 fn array_layout(alloc: Global, element: &Layout, count: u64) -> Result<Layout, NoMemory>
     requires low { IsLow element.now }
     requires small { count * element.now.size ≤ 1048576 }
-    ensures { IfOk result (IsMadeOf (count * element.now.size) (copies count element.now.size 0 element.now.spots.items) element.now.holds) }
+    ensures { IfOk result (IsMadeOf (count * element.now.size)
+        (copies count element.now.size 0 element.now.spots.items) element.now.holds) }
 {
     Ok(Layout {
         size: count * element.size,
@@ -78,7 +81,8 @@ fn struct_layout(
     requires complete { IsComplete types.now t }
     requires kept { ArePartsKept types.now places.now built.now t }
     requires low { All IsLow built.now }
-    ensures { (E : Relation) → ArePartsShown types.now E places.now built.now t → IfOk result (IsLayoutOf types.now E t) }
+    ensures { (E : Relation) → ArePartsShown types.now E places.now built.now t
+        → IfOk result (IsLayoutOf types.now E t) }
 {
     let mut spots = Vec::new(alloc);
     let mut holds = false;
@@ -106,7 +110,9 @@ fn member_layouts<'a>(
     requires typed { IsType types.now t }
     requires aggregate { IsUnion types.now t }
     requires kept { ArePartsKept types.now places.now built.now t }
-    ensures shown { (E : Relation) → ArePartsShown types.now E places.now built.now t → IfOk result (λ parts. AreLayoutsOf types.now E (members_at types.now t) (map (λ p. p.now) parts.items)) }
+    ensures shown { (E : Relation) → ArePartsShown types.now E places.now built.now t
+        → IfOk result (λ parts. AreLayoutsOf types.now E (members_at types.now t)
+        (map (λ p. p.now) parts.items)) }
     ensures count { IfOk result (λ parts. length parts.items ≡ length (members_at types.now t)) }
 {
     let mut parts = Vec::new(alloc);
@@ -138,7 +144,8 @@ fn largest<'a>(first: &'a Layout, parts: &[&'a Layout]) -> &'a Layout
 
 /// Whether a layout begins with each of the others.
 fn begins_with_each(numbers: &[usize], x: &Layout, parts: &[&Layout]) -> bool
-    ensures { result ≡ list_all (begins_spots (number_in numbers.now) x.now) (map (λ p. p.now) parts.now) }
+    ensures { result ≡ list_all (begins_spots (number_in numbers.now) x.now)
+        (map (λ p. p.now) parts.now) }
 {
     'parts: for part in parts {
         if !begins(numbers, x, *part) {
@@ -169,7 +176,8 @@ fn union_of(
     parts: &[&Layout],
 ) -> Result<Layout, NoMemory>
     requires some { 0 < length parts.now }
-    ensures { IfOk result (λ layout. IsUnionOf (number_in numbers.now) t size (map (λ p. p.now) parts.now) layout) }
+    ensures { IfOk result (λ layout. IsUnionOf (number_in numbers.now) t size
+        (map (λ p. p.now) parts.now) layout) }
 {
     if !holds_some(parts) {
         return Ok(raw_layout(alloc, size));
@@ -199,7 +207,8 @@ fn union_layout(
     requires aggregate { IsUnion types.now t }
     requires complete { IsComplete types.now t }
     requires kept { ArePartsKept types.now places.now built.now t }
-    ensures { ArePartsShown types.now (same_number (number_in numbers.now)) places.now built.now t → IfOk result (IsLayoutOf types.now (same_number (number_in numbers.now)) t) }
+    ensures { ArePartsShown types.now (same_number (number_in numbers.now)) places.now built.now t
+        → IfOk result (IsLayoutOf types.now (same_number (number_in numbers.now)) t) }
 {
     let parts = member_layouts(alloc, types, places, built, t)?;
     union_of(alloc, numbers, t, types.size_of(t), &parts)
@@ -218,7 +227,8 @@ pub(crate) fn layout_of(
     requires typed { IsType types.now t }
     requires kept { ArePartsKept types.now places.now built.now t }
     requires low { All IsLow built.now }
-    requires shown { ArePartsShown types.now (same_number (number_in numbers.now)) places.now built.now t }
+    requires shown { ArePartsShown types.now (same_number (number_in numbers.now)) places.now
+        built.now t }
     ensures { IfOk result (IsLayoutOf types.now (same_number (number_in numbers.now)) t) }
 {
     match types.shape(t) {

@@ -81,7 +81,8 @@ fn begin_with_spots(numbers: &[usize], n: u64, spots: &[Spot], front: &[Spot]) -
 
 /// Whether the first cells of a layout are alike to all of another's.
 pub(crate) fn begins(numbers: &[usize], x: &Layout, y: &Layout) -> bool
-    ensures { result ≡ (nat_le y.now.size x.now.size && begin_with_spots (number_in numbers.now) y.now.size x.now.spots.items y.now.spots.items) }
+    ensures { result ≡ (nat_le y.now.size x.now.size && begin_with_spots
+        (number_in numbers.now) y.now.size x.now.spots.items y.now.spots.items) }
 {
     y.size <= x.size && begin_with_spots(numbers, y.size, &x.spots, &y.spots)
 }

@@ -19,7 +19,8 @@ use std::alloc::Global;
 
 /// Adds a pointer to others, if there is one.
 fn add_pointer(pointers: &mut IndexSet<Held>, pointer: Option<Held>) -> Result<(), NoMemory>
-    ensures { OnOk result ((p : HeldPointer) → IsHeld pointers.new.keys p ↔ (IsHeld pointers.old.keys p ⊎ (shown pointer ≡ Some p))) }
+    ensures { OnOk result ((p : HeldPointer) → IsHeld pointers.new.keys p ↔
+        (IsHeld pointers.old.keys p ⊎ (shown pointer ≡ Some p))) }
 {
     if let Some(p) = pointer {
         pointers.insert(p)?;
@@ -36,7 +37,8 @@ fn column(
 ) -> Result<IndexSet<Held>, NoMemory>
     requires some { first < step }
     requires small { step < 2 ^ 63 }
-    ensures { IfOk result (λ pointers. (p : HeldPointer) → IsHeld pointers.keys p ↔ IsInColumn step first spots.now p) }
+    ensures { IfOk result (λ pointers. (p : HeldPointer)
+        → IsHeld pointers.keys p ↔ IsInColumn step first spots.now p) }
 {
     let mut pointers = IndexSet::new(alloc);
     let mut i = first;
@@ -106,7 +108,8 @@ pub(crate) fn add_columns(
 
 /// How many spots of the layout `x` stand in its first bytes, as many as the greatest common divisor of the two sizes.
 pub(crate) fn spots_in_unit(x: &Layout, y: &Layout) -> usize
-    ensures count { (g : ℕ) → IsGcd x.now.size y.now.size g → result ≡ length (spots_before g x.now.spots.items) }
+    ensures count { (g : ℕ) → IsGcd x.now.size y.now.size g → result
+        ≡ length (spots_before g x.now.spots.items) }
     ensures small { result < 2 ^ 63 }
 {
     spots_before(greatest_common_divisor(x.size, y.size), &x.spots).len()

@@ -27,8 +27,10 @@ pub(crate) fn follow(
 ) -> Result<(), NoMemory>
     requires formed { IsWellFormed types.now }
     requires kept { AreAllKept types.now places.now layouts.now }
-    requires equal { (t u : TypeId) → Contains found.old.pointees (t, u) → AreEqualTypes types.now t u }
-    ensures { OnOk result (Gains (CorrespondInSome types.now found.old.pointees) found.old found.new) }
+    requires equal { (t u : TypeId) → Contains found.old.pointees (t, u)
+        → AreEqualTypes types.now t u }
+    ensures { OnOk result (Gains (CorrespondInSome types.now found.old.pointees) found.old
+        found.new) }
 {
     let mut i = 0;
     'queue: while let Some((t, u)) = found.pointees(i) {

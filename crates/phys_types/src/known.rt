@@ -153,7 +153,8 @@ impl<'a> Known<'a> {
         requires to { IsType self.now to }
         ensures nodes { IfOk result (λ pairs. AreCorrespondingNodes self.now from to pairs.items) }
         ensures once { IfOk result (λ pairs. AllPairs (λ x y. x ≢ y) pairs.items) }
-        ensures kinds { (kind : NodeId → Kind) → IfOk result (λ pairs. TellsEqualKinds self.now from to kind pairs.items) }
+        ensures kinds { (kind : NodeId → Kind) → IfOk result
+            (λ pairs. TellsEqualKinds self.now from to kind pairs.items) }
     {
         settled_pairs(
             self.alloc,
@@ -170,7 +171,8 @@ impl<'a> Known<'a> {
     /// The mixed unions that a type holds by value.
     pub fn mixed_unions(&self, t: TypeId) -> Result<Vec<TypeId>, NoMemory>
         requires { IsType self.now t }
-        ensures { IfOk result (λ unions. (v : TypeId) → Contains unions.items v ↔ HoldsMixed self.now t v) }
+        ensures { IfOk result (λ unions. (v : TypeId)
+            → Contains unions.items v ↔ HoldsMixed self.now t v) }
     {
         unions_of(self.alloc, &self.layout(t).spots)
     }
@@ -194,7 +196,8 @@ impl<'a> Known<'a> {
         requires class { class ≡ flow_class self.now from to }
         requires from { IsType self.now from }
         requires to { IsType self.now to }
-        ensures { OnOk result (Gains (CorrespondAtTop self.now (flow_class self.now from to) from to) found.old found.new) }
+        ensures { OnOk result (Gains (CorrespondAtTop self.now
+            (flow_class self.now from to) from to) found.old found.new) }
     {
         add_top(
             self.alloc,
@@ -213,7 +216,8 @@ impl<'a> Known<'a> {
     pub fn add_places(&self, found: &mut Found, t: TypeId, u: TypeId) -> Result<(), NoMemory>
         requires first { IsType self.now t }
         requires second { IsType self.now u }
-        requires near { IsTrue (physically_equal self.now t u) ⊎ IsTrue (begins_with self.now t u) ⊎ IsTrue (begins_with self.now u t) }
+        requires near { IsTrue (physically_equal self.now t u) ⊎ IsTrue (begins_with self.now t u)
+            ⊎ IsTrue (begins_with self.now u t) }
         ensures { OnOk result (Gains (StandAlike self.now t u) found.old found.new) }
     {
         let x = self.layout(t);
@@ -227,8 +231,10 @@ impl<'a> Known<'a> {
 
     /// Adds the pointers at the same places of what the pointers found so far point to, at every depth.
     pub fn follow(&self, found: &mut Found) -> Result<(), NoMemory>
-        requires { (t u : TypeId) → Contains found.old.pointees (t, u) → AreEqualTypes self.now t u }
-        ensures { OnOk result (Gains (CorrespondInSome self.now found.old.pointees) found.old found.new) }
+        requires { (t u : TypeId) → Contains found.old.pointees (t, u)
+            → AreEqualTypes self.now t u }
+        ensures { OnOk result (Gains (CorrespondInSome self.now found.old.pointees) found.old
+            found.new) }
     {
         follow(self.types, &self.places, &self.layouts, found)
     }

@@ -25,7 +25,8 @@ pub fn facts_pass_to_what_is_covered()
 
 /// A type covers what is of one class with a type that it covers.
 pub fn coverage_passes_along_a_class()
-    ensures { (table : Table) (kind : NodeId → Kind) (t u v : TypeId) → IsWellFormed table → Covers table kind t u → IsOfOneClass table kind u v → Covers table kind t v }
+    ensures { (table : Table) (kind : NodeId → Kind) (t u v : TypeId) → IsWellFormed table
+        → Covers table kind t u → IsOfOneClass table kind u v → Covers table kind t v }
 {}
 
 /// The endless repetitions of types that tile agree: cells at places that agree modulo the greatest common divisor of the sizes
@@ -37,5 +38,6 @@ pub fn repetitions_of_types_that_tile_agree()
 
 /// No two types tile of which neither begins with the other.
 pub fn types_that_tile_begin_with_one_another()
-    ensures { (table : Table) (t u : TypeId) → IsWellFormed table → IsTrue (tile table t u) → IsTrue (begins_with table t u || begins_with table u t) }
+    ensures { (table : Table) (t u : TypeId) → IsWellFormed table → IsTrue (tile table t u)
+        → IsTrue (begins_with table t u || begins_with table u t) }
 {}

@@ -21,7 +21,8 @@ use cc_base::TypeId;
 fn same_slot(types: &Types, numbers: &[usize], p: TypeId, q: TypeId) -> bool
     requires first { IsType types.now p }
     requires second { IsType types.now q }
-    ensures { result ≡ same_slot (same_number (number_in numbers.now)) (slot_of p (shape_at types.now p)) (slot_of q (shape_at types.now q)) }
+    ensures { result ≡ same_slot (same_number (number_in numbers.now))
+        (slot_of p (shape_at types.now p)) (slot_of q (shape_at types.now q)) }
 {
     match types.shape(p) {
         TypeShape::Void => matches!(types.shape(q), TypeShape::Void),
@@ -52,7 +53,8 @@ fn same_slot(types: &Types, numbers: &[usize], p: TypeId, q: TypeId) -> bool
 fn same_slots(types: &Types, numbers: &[usize], ps: &[TypeId], qs: &[TypeId]) -> bool
     requires first { All (IsType types.now) ps.now }
     requires second { All (IsType types.now) qs.now }
-    ensures { result ≡ pointwise (λ p q. same_slot (same_number (number_in numbers.now)) (slot_of p (shape_at types.now p)) (slot_of q (shape_at types.now q))) ps.now qs.now }
+    ensures { result ≡ pointwise (λ p q. same_slot (same_number (number_in numbers.now))
+        (slot_of p (shape_at types.now p)) (slot_of q (shape_at types.now q))) ps.now qs.now }
 {
     if ps.len() != qs.len() {
         return false;
@@ -78,7 +80,9 @@ pub(crate) fn looks_alike(
     requires formed { IsWellFormed types.now }
     requires first { IsType types.now t }
     requires second { IsType types.now u }
-    ensures { (E : Relation) → IsLayoutOf types.now E t x.now → IsLayoutOf types.now E u y.now → result ≡ same_makeup (same_number (number_in numbers.now)) (makeup_at types.now E t) (makeup_at types.now E u) }
+    ensures { (E : Relation) → IsLayoutOf types.now E t x.now → IsLayoutOf types.now E u y.now
+        → result ≡ same_makeup (same_number (number_in numbers.now)) (makeup_at types.now E t)
+        (makeup_at types.now E u) }
 {
     match types.shape(t) {
         TypeShape::Function(ps, r) => match types.shape(u) {

@@ -48,7 +48,8 @@ pub(crate) fn add_union(
     unions: &mut IndexSet<TypeId>,
     union: Option<TypeId>,
 ) -> Result<(), NoMemory>
-    ensures { OnOk result ((v : TypeId) → Contains unions.new.keys v ↔ (Contains unions.old.keys v ⊎ (union ≡ Some v))) }
+    ensures { OnOk result ((v : TypeId) → Contains unions.new.keys v ↔
+        (Contains unions.old.keys v ⊎ (union ≡ Some v))) }
 {
     if let Some(t) = union {
         unions.insert(t)?;
@@ -58,7 +59,8 @@ pub(crate) fn add_union(
 
 /// The mixed unions among spots.
 pub(crate) fn unions_of(alloc: Global, spots: &[Spot]) -> Result<Vec<TypeId>, NoMemory>
-    ensures { IfOk result (λ unions. (v : TypeId) → Contains unions.items v ↔ HoldsUnion spots.now v) }
+    ensures { IfOk result (λ unions. (v : TypeId)
+        → Contains unions.items v ↔ HoldsUnion spots.now v) }
 {
     let mut unions = IndexSet::new(alloc);
     'spots: for spot in spots {

@@ -76,7 +76,8 @@ impl Phys {
         requires to { IsType types.now to }
         ensures nodes { IfOk result (λ pairs. AreCorrespondingNodes types.now from to pairs.items) }
         ensures once { IfOk result (λ pairs. AllPairs (λ x y. x ≢ y) pairs.items) }
-        ensures kinds { (kind : NodeId → Kind) → IfOk result (λ pairs. TellsEqualKinds types.now from to kind pairs.items) }
+        ensures kinds { (kind : NodeId → Kind) → IfOk result
+            (λ pairs. TellsEqualKinds types.now from to kind pairs.items) }
     {
         self.over(types)?.pairs(from, to)
     }

@@ -32,7 +32,8 @@ fn empty_lists(alloc: Global, count: usize) -> Result<Vec<Vec<TypeId>>, NoMemory
 
 /// Adds a type to a list, but for the last one again.
 fn push_other(list: &mut Vec<TypeId>, t: TypeId) -> Result<(), NoMemory>
-    ensures { OnOk result ((x : TypeId) → (Contains list.old.items x ⊎ (x ≡ t)) → Contains list.new.items x) }
+    ensures { OnOk result ((x : TypeId) → (Contains list.old.items x ⊎ (x ≡ t))
+        → Contains list.new.items x) }
 {
     if let Some(last) = list.last().copied() {
         if last.0 == t.0 {
@@ -59,7 +60,8 @@ fn add_reader(readers: &mut [Vec<TypeId>], to: TypeId, t: TypeId) -> Result<(), 
 fn add_readers(readers: &mut [Vec<TypeId>], t: TypeId, targets: &[TypeId]) -> Result<(), NoMemory>
     ensures fits { OnOk result (length readers.new ≡ length readers.old) }
     ensures kept { OnOk result (HaveAll readers.old readers.new) }
-    ensures added { OnOk result ((to : TypeId) → Contains targets.now to → to.0 < length readers.old → Contains (list_in readers.new to) t) }
+    ensures added { OnOk result ((to : TypeId) → Contains targets.now to → to.0 < length readers.old
+        → Contains (list_in readers.new to) t) }
 {
     'targets: for to in targets {
         add_reader(readers, *to, t)?;

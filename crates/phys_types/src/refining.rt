@@ -41,7 +41,9 @@ fn formed(
     requires formed { IsWellFormed types.now }
     requires kept { (t : TypeId) → IsType types.now t → IsKept places.now layouts.now t }
     ensures fits { IfOk result (λ ns. length ns.items ≡ length types.now) }
-    ensures numbers { (d : Layout) (t : TypeId) → IsType types.now t → IfOk result (λ ns. number_in ns.items t ≡ mixed (number_in numbers.now t) (form_at types.now t (slice_index_or layouts.now (slice_index_or places.now t.0 0) d))) }
+    ensures numbers { (d : Layout) (t : TypeId) → IsType types.now t
+        → IfOk result (λ ns. number_in ns.items t ≡ mixed (number_in numbers.now t)
+        (form_at types.now t (slice_index_or layouts.now (slice_index_or places.now t.0 0) d))) }
 {
     let mut forms = Vec::with_capacity(alloc, types.count() as usize)?;
     'types: for t in 0..types.count() {
@@ -61,7 +63,9 @@ fn targets(
     requires formed { IsWellFormed types.now }
     requires kept { (t : TypeId) → IsType types.now t → IsKept places.now layouts.now t }
     ensures fits { IfOk result (λ targets. length targets.items ≡ length types.now) }
-    ensures targets { (d : Layout) (t : TypeId) → IsType types.now t → IfOk result (λ targets. list_in targets.items t ≡ targets_at types.now t (slice_index_or layouts.now (slice_index_or places.now t.0 0) d)) }
+    ensures targets { (d : Layout) (t : TypeId) → IsType types.now t
+        → IfOk result (λ targets. list_in targets.items t
+        ≡ targets_at types.now t (slice_index_or layouts.now (slice_index_or places.now t.0 0) d)) }
 {
     let mut targets = Vec::with_capacity(alloc, types.count() as usize)?;
     'types: for t in 0..types.count() {
@@ -97,7 +101,10 @@ pub(crate) fn refine(
 ) -> Result<Vec<usize>, NoMemory>
     requires formed { IsWellFormed types.now }
     requires kept { (t : TypeId) → IsType types.now t → IsKept places.now layouts.now t }
-    ensures { (E : Relation) (order : List TypeId) → IsWholeOrder types.now order places.now → IsWide types.now E → length layouts.now ≡ length order → AreShown types.now E order layouts.now → IsCoarser types.now numbers.now → IfOk result (λ finer. IsCoarser types.now finer.items) }
+    ensures { (E : Relation) (order : List TypeId) → IsWholeOrder types.now order places.now
+        → IsWide types.now E → length layouts.now ≡ length order
+        → AreShown types.now E order layouts.now → IsCoarser types.now numbers.now
+        → IfOk result (λ finer. IsCoarser types.now finer.items) }
 {
     let targets = targets(alloc, types, places, layouts)?;
     let readers = readers(alloc, types.count(), &targets)?;

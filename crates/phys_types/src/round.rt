@@ -51,9 +51,11 @@ fn first_alike(
     requires typed { IsType types.now t }
     requires types { All (IsType types.now) order.now }
     requires within { length layouts.now ≤ length order.now }
-    requires shown { AreShown types.now (same_number (number_in numbers.now)) order.now layouts.now }
+    requires shown { AreShown types.now (same_number (number_in numbers.now)) order.now
+        layouts.now }
     requires own { IsLayoutOf types.now (same_number (number_in numbers.now)) t layout.now }
-    ensures { result ≡ first_place (λ u. made_alike types.now (same_number (number_in numbers.now)) u t) (take (length layouts.now) order.now) }
+    ensures { result ≡ first_place (λ u. made_alike types.now
+        (same_number (number_in numbers.now)) u t) (take (length layouts.now) order.now) }
 {
     for (i, other) in layouts.iter().enumerate() {
         if looks_alike(types, numbers, order[i], other, t, layout) {
@@ -74,7 +76,8 @@ pub(crate) fn renumber(
 ) -> Result<Round, NoMemory>
     requires formed { IsWellFormed types.now }
     requires order { IsOrder types.now order.now places.now }
-    ensures { IfOk result (λ round. IsRound types.now (same_number (number_in numbers.now)) order.now round.numbers.items round.layouts.items) }
+    ensures { IfOk result (λ round. IsRound types.now (same_number (number_in numbers.now))
+        order.now round.numbers.items round.layouts.items) }
 {
     let mut next = zeros(alloc, types.count() as usize)?;
     let mut layouts = Vec::with_capacity(alloc, order.len())?;
@@ -100,7 +103,8 @@ fn built(
     requires formed { IsWellFormed types.now }
     requires order { IsOrder types.now order.now places.now }
     ensures all { IfOk result (λ layouts. length layouts.items ≡ length order.now) }
-    ensures shown { IfOk result (λ layouts. AreShown types.now (same_number (number_in numbers.now)) order.now layouts.items) }
+    ensures shown { IfOk result (λ layouts. AreShown types.now
+        (same_number (number_in numbers.now)) order.now layouts.items) }
 {
     let mut layouts = Vec::with_capacity(alloc, order.len())?;
     'types: for t in order {
@@ -117,7 +121,8 @@ fn first_with(
     place: usize,
 ) -> Result<usize, NoMemory>
     ensures here { IfOk result (λ first. get nat_eq firsts.new number ≡ Some first) }
-    ensures kept { OnOk result ((n k : ℕ) → get nat_eq firsts.old n ≡ Some k → get nat_eq firsts.new n ≡ Some k) }
+    ensures kept { OnOk result ((n k : ℕ) → get nat_eq firsts.old n ≡ Some k
+        → get nat_eq firsts.new n ≡ Some k) }
 {
     if let Some(first) = firsts.get(&number) {
         return Ok(*first);
@@ -138,9 +143,12 @@ fn look_alike_at(
     requires formed { IsWellFormed types.now }
     requires types { All (IsType types.now) order.now }
     requires all { length layouts.now ≡ length order.now }
-    requires shown { AreShown types.now (same_number (number_in numbers.now)) order.now layouts.now }
+    requires shown { AreShown types.now (same_number (number_in numbers.now)) order.now
+        layouts.now }
     requires place { place < length order.now }
-    ensures { (d : TypeId) → IsTrue result → IsTrue (made_alike types.now (same_number (number_in numbers.now)) (slice_index_or order.now first d) (slice_index_or order.now place d)) }
+    ensures { (d : TypeId) → IsTrue result → IsTrue (made_alike types.now
+        (same_number (number_in numbers.now)) (slice_index_or order.now first d)
+        (slice_index_or order.now place d)) }
 {
     if first >= order.len() {
         return false;
@@ -166,7 +174,8 @@ fn are_stable(
     requires formed { IsWellFormed types.now }
     requires types { All (IsType types.now) order.now }
     requires all { length layouts.now ≡ length order.now }
-    requires shown { AreShown types.now (same_number (number_in numbers.now)) order.now layouts.now }
+    requires shown { AreShown types.now (same_number (number_in numbers.now)) order.now
+        layouts.now }
     ensures { IfOk result (λ stable. IsTrue stable → AreStable types.now order.now numbers.now) }
 {
     let mut firsts = IndexMap::new(alloc);
@@ -191,7 +200,8 @@ pub(crate) fn settle(
 ) -> Result<Round, NoMemory>
     requires formed { IsWellFormed types.now }
     requires order { IsWholeOrder types.now order.now places.now }
-    ensures { IfOk result (λ round. AreSettled types.now order.now round.numbers.items round.layouts.items) }
+    ensures { IfOk result (λ round. AreSettled types.now order.now round.numbers.items
+        round.layouts.items) }
 {
     let count = types.count() as usize;
     let mut numbers = zeros(alloc, count)?;
@@ -218,7 +228,8 @@ fn settle_by_levels(
     requires formed { IsWellFormed types.now }
     requires order { IsOrder types.now order.now places.now }
     requires closed { IsClosed types.now (Contains order.now) }
-    ensures { IfOk result (λ round. AreSettled types.now order.now round.numbers.items round.layouts.items) }
+    ensures { IfOk result (λ round. AreSettled types.now order.now round.numbers.items
+        round.layouts.items) }
 {
     let count = types.count() as usize;
     let mut numbers = zeros(alloc, count)?;

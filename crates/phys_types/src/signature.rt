@@ -98,7 +98,8 @@ fn add_item_target(targets: &mut Vec<TypeId>, item: Item) -> Result<(), NoMemory
 
 /// What spots point to, in order.
 fn spots_targets(alloc: Global, spots: &[Spot]) -> Result<Vec<TypeId>, NoMemory>
-    ensures { IfOk result (λ targets. targets.items ≡ flat_map (λ s. item_targets s.item) spots.now) }
+    ensures { IfOk result (λ targets. targets.items
+        ≡ flat_map (λ s. item_targets s.item) spots.now) }
 {
     let mut targets = Vec::new(alloc);
     'spots: for spot in spots {
@@ -110,7 +111,8 @@ fn spots_targets(alloc: Global, spots: &[Spot]) -> Result<Vec<TypeId>, NoMemory>
 /// Adds what a parameter or a result points to; one that is no scalar counts as what it is.
 fn add_slot_target(types: &Types, targets: &mut Vec<TypeId>, p: TypeId) -> Result<(), NoMemory>
     requires { IsType types.now p }
-    ensures { OnOk result (targets.new.items ≡ targets.old.items ++ slot_targets (slot_in types.now p)) }
+    ensures { OnOk result (targets.new.items
+        ≡ targets.old.items ++ slot_targets (slot_in types.now p)) }
 {
     let target = match types.shape(p) {
         TypeShape::Void => return Ok(()),
@@ -129,7 +131,8 @@ fn add_slots_targets(
     ps: &[TypeId],
 ) -> Result<(), NoMemory>
     requires { All (IsType types.now) ps.now }
-    ensures { OnOk result (targets.new.items ≡ targets.old.items ++ flat_map (λ p. slot_targets (slot_in types.now p)) ps.now) }
+    ensures { OnOk result (targets.new.items ≡ targets.old.items ++ flat_map
+        (λ p. slot_targets (slot_in types.now p)) ps.now) }
 {
     'slots: for p in ps {
         add_slot_target(types, targets, *p)?;
@@ -146,7 +149,8 @@ fn function_targets(
 ) -> Result<Vec<TypeId>, NoMemory>
     requires result { IsType types.now r }
     requires parameters { All (IsType types.now) ps.now }
-    ensures { IfOk result (λ targets. targets.items ≡ flat_map (λ p. slot_targets (slot_in types.now p)) (r ∷ ps.now)) }
+    ensures { IfOk result (λ targets. targets.items
+        ≡ flat_map (λ p. slot_targets (slot_in types.now p)) (r ∷ ps.now)) }
 {
     let mut targets = Vec::new(alloc);
     add_slot_target(types, &mut targets, r)?;

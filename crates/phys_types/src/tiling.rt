@@ -16,7 +16,9 @@ use std::alloc::Global;
 pub(crate) fn tiles(alloc: Global, numbers: &[usize], x: &Layout, n: u64) -> Result<bool, NoMemory>
     requires low { AreLow x.now.spots.items }
     requires small { x.now.size ≤ 1048576 }
-    ensures { (g : ℕ) → IsGcd x.now.size n g → IfOk result (λ tile. tile ≡ (nat_lt 0 n && repeat_spots (number_in numbers.now) x.now.size g x.now.spots.items)) }
+    ensures { (g : ℕ) → IsGcd x.now.size n g → IfOk result
+        (λ tile. tile ≡ (nat_lt 0 n && repeat_spots
+        (number_in numbers.now) x.now.size g x.now.spots.items)) }
 {
     if n == 0 {
         return Ok(false);

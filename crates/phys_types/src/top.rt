@@ -34,7 +34,8 @@ pub(crate) fn add_top(
     requires to { IsType types.now to }
     requires from_layout { IsLayoutOf types.now (physically_equal types.now) from x.now }
     requires to_layout { IsLayoutOf types.now (physically_equal types.now) to y.now }
-    ensures { OnOk result (Gains (CorrespondAtTop types.now (flow_class types.now from to) from to) found.old found.new) }
+    ensures { OnOk result (Gains (CorrespondAtTop types.now (flow_class types.now from to) from to)
+        found.old found.new) }
 {
     match class {
         FlowClass::Equal => add_alike(types, found, from, x, to, y),

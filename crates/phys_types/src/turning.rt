@@ -56,7 +56,8 @@ pub(crate) fn sizes(alloc: Global, numbers: &[usize]) -> Result<Counts, NoMemory
 
 /// Adds types to a set.
 fn add_all(set: &mut IndexSet<TypeId>, ts: &[TypeId]) -> Result<(), NoMemory>
-    ensures { OnOk result ((t : TypeId) → (Contains set.old.keys t ⊎ Contains ts.now t) → Contains set.new.keys t) }
+    ensures { OnOk result ((t : TypeId) → (Contains set.old.keys t ⊎ Contains ts.now t)
+        → Contains set.new.keys t) }
 {
     'types: for t in ts {
         add_union(set, Some(*t))?;
@@ -70,7 +71,8 @@ fn reading(
     readers: &[Vec<TypeId>],
     changed: &[Numbered],
 ) -> Result<IndexSet<TypeId>, NoMemory>
-    ensures { IfOk result (λ set. (e : Numbered) (t : TypeId) → Contains changed.now e → Contains (list_in readers.now e.ty) t → Contains set.keys t) }
+    ensures { IfOk result (λ set. (e : Numbered) (t : TypeId) → Contains changed.now e
+        → Contains (list_in readers.now e.ty) t → Contains set.keys t) }
 {
     let mut set = IndexSet::new(alloc);
     'changed: for e in changed {
@@ -113,7 +115,8 @@ fn told(
     targets: &[Vec<TypeId>],
     types: &[TypeId],
 ) -> Result<Vec<Numbered>, NoMemory>
-    ensures { IfOk result (λ told. told.items ≡ flat_map (told_at fresh.now targets.now) types.now) }
+    ensures { IfOk result (λ told. told.items
+        ≡ flat_map (told_at fresh.now targets.now) types.now) }
 {
     let mut told = Vec::new(alloc);
     'types: for t in types {
@@ -193,7 +196,8 @@ fn rename(
     keepers: &IndexMap<usize, usize>,
     e: Numbered,
 ) -> Result<(), NoMemory>
-    ensures { OnOk result (renamed.new.items ≡ renamed.old.items ++ renamed_at (get nat_eq keepers.now) numbers.now e) }
+    ensures { OnOk result (renamed.new.items ≡ renamed.old.items ++ renamed_at
+        (get nat_eq keepers.now) numbers.now e) }
 {
     let old = number_of(numbers, e.ty);
     let number = next_number(keepers, old, e.number);
@@ -210,7 +214,8 @@ fn renamed(
     keepers: &IndexMap<usize, usize>,
     told: &[Numbered],
 ) -> Result<Vec<Numbered>, NoMemory>
-    ensures { IfOk result (λ renamed. renamed.items ≡ flat_map (renamed_at (get nat_eq keepers.now) numbers.now) told.now) }
+    ensures { IfOk result (λ renamed. renamed.items
+        ≡ flat_map (renamed_at (get nat_eq keepers.now) numbers.now) told.now) }
 {
     let mut renamed = Vec::new(alloc);
     'told: for e in told {
@@ -272,7 +277,10 @@ fn told_apart(
     fresh: &[usize],
     changed: &[Numbered],
 ) -> Result<Vec<Numbered>, NoMemory>
-    ensures { length fresh.now ≡ length graph.now.targets.items → AreReaders graph.now.targets.items graph.now.readers.items → AreMarked fresh.now changed.now → IfOk result (λ renamed. AreNew graph.now.targets.items numbers.now fresh.now renamed.items) }
+    ensures { length fresh.now ≡ length graph.now.targets.items
+        → AreReaders graph.now.targets.items graph.now.readers.items
+        → AreMarked fresh.now changed.now → IfOk result
+        (λ renamed. AreNew graph.now.targets.items numbers.now fresh.now renamed.items) }
 {
     let touched = reading(alloc, &graph.readers, changed)?;
     let told = told(alloc, fresh, &graph.targets, touched.as_slice())?;
@@ -293,7 +301,10 @@ pub(crate) fn turn(
 ) -> Result<Vec<Numbered>, NoMemory>
     ensures numbers { length numbers.new ≡ length numbers.old }
     ensures fresh { length fresh.new ≡ length fresh.old }
-    ensures turned { (table : Table) → IsTurning table graph.now.targets.items graph.now.readers.items numbers.old fresh.old changed.now → IfOk result (λ renamed. IsTurning table graph.now.targets.items graph.now.readers.items numbers.new fresh.new renamed.items) }
+    ensures turned { (table : Table) → IsTurning table graph.now.targets.items
+        graph.now.readers.items numbers.old fresh.old changed.now
+        → IfOk result (λ renamed. IsTurning table graph.now.targets.items graph.now.readers.items
+        numbers.new fresh.new renamed.items) }
 {
     let renamed = told_apart(alloc, graph, sizes, numbers, fresh, changed)?;
     clear(fresh, changed);

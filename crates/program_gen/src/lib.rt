@@ -60,7 +60,8 @@ fn put_call(text: &mut Vec<u8>, i: u32) -> Result<(), NoMemory>
 
 /// Adds the pieces, one after another.
 fn put_pieces(text: &mut Vec<u8>, pieces: &[&[u8]]) -> Result<(), NoMemory>
-    ensures { OnOk result (text.new.items ≡ text.old.items ++ flat_map (λ piece. piece.now) pieces.now) }
+    ensures { OnOk result (text.new.items ≡ text.old.items ++ flat_map
+        (λ piece. piece.now) pieces.now) }
 {
     for piece in pieces {
         text.extend_from_slice(piece)?;

@@ -1,3 +1,5 @@
+//! Generated programs: one in full, and the sizes of five.
+
 use crate::make;
 use std::test::*;
 

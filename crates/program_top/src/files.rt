@@ -25,10 +25,13 @@ pub(crate) fn read_text<F: Files>(
     limit: u64,
     files: &mut F,
 ) -> Result<Vec<u8>, FileFault>
-    ensures told { IfOk result (λ text. IfSome (F.holds files.old name.now) (λ bytes. text.items ≡ bytes)) }
+    ensures told { IfOk result (λ text. IfSome (F.holds files.old name.now)
+        (λ bytes. text.items ≡ bytes)) }
     ensures within_limit { IfOk result (λ text. vec_len text ≤ limit) }
-    ensures too_large { IsErrOf result FileFault.TooLarge → IfSome (F.holds files.old name.now) (λ bytes. limit < length bytes) }
-    ensures failed { IsErrOf result FileFault.Failed → Rose (F.faults files.old) (F.faults files.new) }
+    ensures too_large { IsErrOf result FileFault.TooLarge → IfSome (F.holds files.old name.now)
+        (λ bytes. limit < length bytes) }
+    ensures failed { IsErrOf result FileFault.Failed
+        → Rose (F.faults files.old) (F.faults files.new) }
     ensures last { IsErrOf result FileFault.Failed → F.last files.new ≡ Some name.now }
 {
     let mut text = Vec::new(alloc);

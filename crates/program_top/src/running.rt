@@ -64,7 +64,8 @@ fn run_code<I: Source, O: Sink>(
     input: &mut I,
     out: &mut O,
 ) -> Verdict
-    ensures { (action : Asked) (text : List ℕ) → turns_of action ≡ turns → IsCodeOf texts action text code.now →
+    ensures { (action : Asked) (text : List ℕ) → turns_of action ≡ turns
+        → IsCodeOf texts action text code.now →
         IsTextCause texts action text
         (outside I.held I.faults input.old input.new)
         (outside O.written O.faults out.old out.new)

@@ -47,8 +47,10 @@ pub fn ccured<F: Files, I: Source, O: Sink, E: Sink>(
         result }
 
     // Where nothing failed and memory was there, the answer to the words, the files and the input is given.
-    ensures answer { ¬ (Rose (F.faults files.old) (F.faults files.new)) → ¬ (Rose (I.faults input.old) (I.faults input.new)) →
-        ¬ (Rose (O.faults out.old) (O.faults out.new)) → ¬ (Rose (E.faults report.old) (E.faults report.new)) → result ≢ 9 →
+    ensures answer { ¬ (Rose (F.faults files.old) (F.faults files.new))
+        → ¬ (Rose (I.faults input.old) (I.faults input.new)) →
+        ¬ (Rose (O.faults out.old) (O.faults out.new))
+        → ¬ (Rose (E.faults report.old) (E.faults report.new)) → result ≢ 9 →
         GivesAnswer texts (map string_bytes words.now)
         (filed F.holds F.faults F.last files.old files.new)
         (outside I.held I.faults input.old input.new)
@@ -57,9 +59,12 @@ pub fn ccured<F: Files, I: Source, O: Sink, E: Sink>(
         result }
 
     // THE ANSWER TO `run` IS THE SOURCE'S, where nothing failed, memory was there, and the kinds make the program plain.
-    ensures source { ¬ (Rose (F.faults files.old) (F.faults files.new)) → ¬ (Rose (I.faults input.old) (I.faults input.new)) →
-        ¬ (Rose (O.faults out.old) (O.faults out.new)) → ¬ (Rose (E.faults report.old) (E.faults report.new)) → result ≢ 9 →
-        (name : List ℕ) (turns : ℕ) → command_of (map string_bytes words.now) ≡ Some (OnFile (Run turns) name) →
+    ensures source { ¬ (Rose (F.faults files.old) (F.faults files.new))
+        → ¬ (Rose (I.faults input.old) (I.faults input.new)) →
+        ¬ (Rose (O.faults out.old) (O.faults out.new))
+        → ¬ (Rose (E.faults report.old) (E.faults report.new)) → result ≢ 9 →
+        (name : List ℕ) (turns : ℕ) → command_of (map string_bytes words.now)
+        ≡ Some (OnFile (Run turns) name) →
         GivesSourceAnswer name turns
         (filed F.holds F.faults F.last files.old files.new)
         (outside I.held I.faults input.old input.new)
@@ -69,7 +74,8 @@ pub fn ccured<F: Files, I: Source, O: Sink, E: Sink>(
 
     // Words that are no command are refused, if memory to read them was there.
     ensures usage { command_of (map string_bytes words.now) ≡ None →
-        (result ≡ 2) ⊎ ((result ≡ 9) ⊎ ((result ≡ 6) × Rose (E.faults report.old) (E.faults report.new))) }
+        (result ≡ 2) ⊎ ((result ≡ 9) ⊎ ((result ≡ 6)
+        × Rose (E.faults report.old) (E.faults report.new))) }
 
     // No memory is wanted where the first word is no command's own, or a word behind it begins with `-` and isn't the option.
     ensures at_once { are_asked (map string_bytes words.now) ≡ false →

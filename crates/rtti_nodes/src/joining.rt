@@ -82,7 +82,8 @@ pub(crate) fn classes_of(
     requires sorted { IsNonDecreasingBy (λ s. s.size) ordered.now }
     requires told { TellClasses known.now (kind_at kinds.now) told.now }
     ensures { IfOk result (λ c.
-        AreSorted known.now (kind_at kinds.now) ordered.now (length ordered.now) c.firsts.items c.parents.items c.numbers.items) }
+        AreSorted known.now (kind_at kinds.now) ordered.now
+        (length ordered.now) c.firsts.items c.parents.items c.numbers.items) }
 {
     let mut classes = Classes {
         firsts: Vec::new(alloc),

@@ -37,7 +37,8 @@ fn pointer_label(kinds: &Kinds, numbers: &[usize], node: NodeId, to: TypeId) -> 
 
 fn item_label(kinds: &Kinds, numbers: &[usize], item: Item) -> usize
     requires { HasNode (length kinds.now) item }
-    ensures { result ≡ pointer_label (kind_at kinds.now) (number_in numbers.now) (pointer_of_item item) }
+    ensures { result ≡ pointer_label (kind_at kinds.now) (number_in numbers.now)
+        (pointer_of_item item) }
 {
     match item {
         Item::Pointer(node, to) => pointer_label(kinds, numbers, node, to),
@@ -48,7 +49,8 @@ fn item_label(kinds: &Kinds, numbers: &[usize], item: Item) -> usize
 /// What is seen of the pointers at spots, in order.
 fn spots_label(kinds: &Kinds, numbers: &[usize], spots: &[Spot]) -> usize
     requires { All (λ s. HasNode (length kinds.now) s.item) spots.now }
-    ensures { result ≡ mixed_all 0 (spot_label (kind_at kinds.now) (number_in numbers.now)) spots.now }
+    ensures { result ≡ mixed_all 0 (spot_label (kind_at kinds.now) (number_in numbers.now))
+        spots.now }
 {
     let mut label = 0;
     'spots: for spot in spots {
@@ -74,7 +76,8 @@ fn slots_label(types: &Types, kinds: &Kinds, numbers: &[usize], r: TypeId, ps: &
     requires result { IsType types.now r }
     requires parameters { All (IsType types.now) ps.now }
     requires nodes { All (λ e. AreNodesOf (length kinds.now) e.shape) types.now }
-    ensures { result ≡ mixed_all (mixed 0 (slot_label types.now (kind_at kinds.now) (number_in numbers.now) r))
+    ensures { result ≡ mixed_all (mixed 0 (slot_label types.now (kind_at kinds.now)
+        (number_in numbers.now) r))
         (slot_label types.now (kind_at kinds.now) (number_in numbers.now)) ps.now }
 {
     let mut label = mixed(0, slot_label(types, kinds, numbers, r));

@@ -26,7 +26,8 @@ pub fn programs_with_bounds()
     ensures three_turns { (stepped_over 3).ending ≡ Turns }
     ensures address_kept { Shows address_kept (Stopped Escape (at 30)) [] [] }
     ensures freed_read { Shows freed_read (Exited 0) (107 ∷ [])
-        (access 0 0 8 ∷ access 0 0 8 ∷ access 1 0 1 ∷ access 0 0 8 ∷ access 0 0 8 ∷ access 1 0 1 ∷ []) }
+        (access 0 0 8 ∷ access 0 0 8 ∷ access 1 0 1 ∷ access 0 0 8 ∷ access 0 0 8 ∷ access 1 0 1 ∷
+        []) }
     ensures size_of_pointer { Shows size_of_pointer (Exited 8) []
         (access 1 0 8 ∷ access 1 0 8 ∷ access 1 0 8 ∷ []) }
     ensures moved_too_far { moved_too_far.ending ≡ Stopped Range (at 39) }
@@ -55,7 +56,8 @@ pub fn other_programs()
     ensures cast_down { Shows cast_down (Stopped Cast (at_line 8 10)) (66 ∷ [])
         (access 1 0 8 ∷ access 0 4 4 ∷ access 1 0 8 ∷ access 0 4 4 ∷ access 1 0 8 ∷ []) }
     ensures called_otherwise { Shows called_otherwise (Stopped Fun (at_line 6 9)) (65 ∷ [])
-        (access 0 0 8 ∷ access 0 0 8 ∷ access 1 0 8 ∷ access 1 0 8 ∷ access 2 0 4 ∷ access 2 0 4 ∷ access 1 0 8 ∷ []) }
+        (access 0 0 8 ∷ access 0 0 8 ∷ access 1 0 8 ∷ access 1 0 8 ∷ access 2 0 4 ∷ access 2 0 4 ∷
+        access 1 0 8 ∷ []) }
     ensures chosen { Shows chosen (Exited 8) (65 ∷ [])
         (access 0 0 4 ∷ access 0 0 4 ∷ access 0 0 4 ∷ access 0 0 4 ∷ []) }
     ensures null_freed { Shows null_freed (Exited 3) [] [] }
@@ -100,11 +102,16 @@ pub fn recursion_is_stopped()
 /// one function the first is tied to each of the others. In
 /// `int main(void){{typedef int g(int *);}{typedef char *g(void);}return 0;}` two typedefs of one name in two blocks tie nothing.
 pub fn sites_of_a_program()
-    ensures redeclared { sites_of redeclared_program redeclared_table ≡ Pointee (node 0) int ∷ Pointee (node 1) int ∷ Pointee (node 2) int ∷ Same (type 10) (type 12) ∷ Same (type 10) (type 14) ∷ [] }
-    ensures block_typedefs { sites_of block_typedefs block_typedefs_table ≡ Pointee (node 0) int ∷ Pointee (node 1) char ∷ [] }
+    ensures redeclared { sites_of redeclared_program redeclared_table
+        ≡ Pointee (node 0) int ∷ Pointee (node 1) int ∷ Pointee (node 2) int ∷ Same (type 10)
+        (type 12) ∷ Same (type 10) (type 14) ∷ [] }
+    ensures block_typedefs { sites_of block_typedefs block_typedefs_table
+        ≡ Pointee (node 0) int ∷ Pointee (node 1) char ∷ [] }
     ensures hidden { sites_of hidden_program hidden_table ≡ Pointee (node 0) char ∷ [] }
-    ensures address { sites_of address_program address_table ≡ Pointee (node 0) int ∷ Pointee (node 3) int ∷ Home (node 1) (type 9)
-        ∷ Home (node 2) int ∷ Linked (node 3) (node 2) ∷ Flow (node 3) int (node 0) int (at 30) ∷ [] }
+    ensures address { sites_of address_program address_table
+        ≡ Pointee (node 0) int ∷ Pointee (node 3) int ∷ Home (node 1) (type 9)
+        ∷ Home (node 2) int ∷ Linked (node 3) (node 2) ∷ Flow (node 3) int (node 0) int
+        (at 30) ∷ [] }
 {}
 
 /// A `switch` runs its block from the label that its value chooses, as a block runs; a `break` leaves it.

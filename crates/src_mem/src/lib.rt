@@ -34,19 +34,25 @@ pub fn pointer_equality_is_an_equivalence()
 /// A load after a store through the same pointer gives what was stored: an integer as its type holds it, and a pointer as it was.
 pub fn loads_give_what_was_stored()
     ensures integer { AStoredIntegerIsLoaded }
-    ensures pointer { (kind : Kind) (p q : Pointer) (s : State) → AreWhole s.memory.objects → GivesNext (store_pointer kind p q s) (load_pointer kind p) q }
+    ensures pointer { (kind : Kind) (p q : Pointer) (s : State) → AreWhole s.memory.objects
+        → GivesNext (store_pointer kind p q s) (load_pointer kind p) q }
 {}
 
 /// Each object has as many bytes as its size, and those under a stored pointer are zero: every operation on memory
 /// leaves it so.
 pub fn bytes_under_pointers_stay_zero()
-    ensures integer { (kind : Kind) (t : IntegerType) (p : Pointer) (z : ℤ) → KeepsWhole (store_integer kind t p z) }
+    ensures integer { (kind : Kind) (t : IntegerType) (p : Pointer) (z : ℤ)
+        → KeepsWhole (store_integer kind t p z) }
     ensures pointer { (kind : Kind) (p q : Pointer) → KeepsWhole (store_pointer kind p q) }
     ensures clearing { (number : ℕ) → KeepsWhole (clear number) }
-    ensures copying { (n : ℕ) (from : Kind) (source : Pointer) (to : Kind) (target : Pointer) → KeepsWhole (copy n from source to target) }
-    ensures allocation { (w : Setting) (node : NodeId) (t : TypeId) (n : ℕ) → KeepsWhole (allocate w node t n) }
-    ensures entry { (w : Setting) (depth f : ℕ) (variables : List Planned) → KeepsWhole (enter w depth f variables) }
-    ensures leaving { (w : Setting) (depth : ℕ) (variables : List Planned) → KeepsWhole (leave w depth variables) }
+    ensures copying { (n : ℕ) (from : Kind) (source : Pointer) (to : Kind) (target : Pointer)
+        → KeepsWhole (copy n from source to target) }
+    ensures allocation { (w : Setting) (node : NodeId) (t : TypeId) (n : ℕ)
+        → KeepsWhole (allocate w node t n) }
+    ensures entry { (w : Setting) (depth f : ℕ) (variables : List Planned)
+        → KeepsWhole (enter w depth f variables) }
+    ensures leaving { (w : Setting) (depth : ℕ) (variables : List Planned)
+        → KeepsWhole (leave w depth variables) }
 {}
 
 /// Each access that a run notes lies in an object that is there: every operation leaves it so.
@@ -57,22 +63,29 @@ pub fn accesses_lie_in_objects()
 /// An access through a pointer that isn't WILD lies in the pointer's part, and its object has not ended. So each access that a load or
 /// a store notes lies in the object that its pointer names and, where that isn't WILD, in its part; a copy notes two.
 pub fn accesses_lie_in_parts()
-    ensures integer_loaded { (kind : Kind) (t : IntegerType) (p : Pointer) (s : State) → Where (load_integer kind t p s) (NotesAccess kind p t.bytes s) }
-    ensures pointer_loaded { (kind : Kind) (p : Pointer) (s : State) → Where (load_pointer kind p s) (NotesAccess kind p 8 s) }
-    ensures integer_stored { (kind : Kind) (t : IntegerType) (p : Pointer) (z : ℤ) (s : State) → Where (store_integer kind t p z s) (NotesAccess kind p t.bytes s) }
-    ensures pointer_stored { (kind : Kind) (p q : Pointer) (s : State) → Where (store_pointer kind p q s) (NotesAccess kind p 8 s) }
-    ensures copied { (n : ℕ) (from : Kind) (source : Pointer) (to : Kind) (target : Pointer) (s : State) → Where (copy n from source to target s) (NotesTwo from source to target n s) }
+    ensures integer_loaded { (kind : Kind) (t : IntegerType) (p : Pointer) (s : State)
+        → Where (load_integer kind t p s) (NotesAccess kind p t.bytes s) }
+    ensures pointer_loaded { (kind : Kind) (p : Pointer) (s : State)
+        → Where (load_pointer kind p s) (NotesAccess kind p 8 s) }
+    ensures integer_stored { (kind : Kind) (t : IntegerType) (p : Pointer) (z : ℤ) (s : State)
+        → Where (store_integer kind t p z s) (NotesAccess kind p t.bytes s) }
+    ensures pointer_stored { (kind : Kind) (p q : Pointer) (s : State)
+        → Where (store_pointer kind p q s) (NotesAccess kind p 8 s) }
+    ensures copied { (n : ℕ) (from : Kind) (source : Pointer) (to : Kind) (target : Pointer)
+        (s : State) → Where (copy n from source to target s) (NotesTwo from source to target n s) }
     ensures inside { SpotsLieInParts }
 {}
 
 /// `putchar` appends the low byte of its argument to the output, and changes nothing else.
 pub fn put_appends_one_byte()
-    ensures { (z : ℤ) (s : State) → put z s ≡ Done (pos (residue z 256)) (record s { output = s.output ++ residue z 256 ∷ [] }) }
+    ensures { (z : ℤ) (s : State) → put z s ≡ Done (pos (residue z 256))
+        (record s { output = s.output ++ residue z 256 ∷ [] }) }
 {}
 
 /// `getchar` reads no more input than there is.
 pub fn get_reads_what_is_there()
-    ensures { (s : State) → s.read ≤ length (bytes_of s.input) → (left_by (get s)).read ≤ length (bytes_of (left_by (get s)).input) }
+    ensures { (s : State) → s.read ≤ length (bytes_of s.input)
+        → (left_by (get s)).read ≤ length (bytes_of (left_by (get s)).input) }
 {}
 
 /// A read or a write of a scalar, with its conditions before it, is wrong nowhere: through a pointer of its kind to the type,
@@ -86,11 +99,18 @@ pub fn reads_and_writes_are_not_wrong()
 /// for what moves, is subtracted or put in order, SAFE or WILD for what is called, and WILD for a member's address exactly
 /// where its struct's is.
 pub fn pointer_operations_are_not_wrong()
-    ensures moving { (w : Setting) (at : Place) (t : TypeId) (n : ℤ) (p : Pointer) (s : State) → (kind_in w t ≡ Seq) ⊎ (kind_in w t ≡ Wild) → IsNotWrong (moved w at t n p s) }
-    ensures difference { (w : Setting) (at : Place) (t : TypeId) (p : Pointer) (q : Used) (s : State) → (kind_in w t ≡ Seq) ⊎ (kind_in w t ≡ Wild) → IsNotWrong (subtracted w at t p q s) }
-    ensures order { (w : Setting) (at : Place) (operator : Operator) (p q : Used) (s : State) → IsOrder operator → (p.kind ≡ Seq) ⊎ (p.kind ≡ Wild) → IsNotWrong (compared w at operator p q s) }
-    ensures equality { (w : Setting) (at : Place) (p q : Used) (s : State) → IsNotWrong (equated w at p q s) }
-    ensures conversion { (w : Setting) (at : Place) (t u : TypeId) (p : Pointer) (s : State) → IsNotWrong (converted_pointer w at t u p s) }
+    ensures moving { (w : Setting) (at : Place) (t : TypeId) (n : ℤ) (p : Pointer) (s : State)
+        → (kind_in w t ≡ Seq) ⊎ (kind_in w t ≡ Wild) → IsNotWrong (moved w at t n p s) }
+    ensures difference { (w : Setting) (at : Place) (t : TypeId) (p : Pointer) (q : Used)
+        (s : State) → (kind_in w t ≡ Seq) ⊎ (kind_in w t ≡ Wild)
+        → IsNotWrong (subtracted w at t p q s) }
+    ensures order { (w : Setting) (at : Place) (operator : Operator) (p q : Used) (s : State)
+        → IsOrder operator → (p.kind ≡ Seq) ⊎ (p.kind ≡ Wild)
+        → IsNotWrong (compared w at operator p q s) }
+    ensures equality { (w : Setting) (at : Place) (p q : Used) (s : State)
+        → IsNotWrong (equated w at p q s) }
+    ensures conversion { (w : Setting) (at : Place) (t u : TypeId) (p : Pointer) (s : State)
+        → IsNotWrong (converted_pointer w at t u p s) }
     ensures members { MembersAreNotWrong }
     ensures calls { CallsAreNotWrong }
 {}
@@ -110,16 +130,21 @@ pub fn addresses_are_not_wrong()
 /// The clearing of an object that has not ended is wrong nowhere, and neither is the allocation of a block, with or without
 /// the condition on what is made of it.
 pub fn clearing_and_allocation_are_not_wrong()
-    ensures clearing { (number : ℕ) (o : Object) (s : State) → slice_get s.memory.objects number ≡ Some o → IsTrue o.live → IsNotWrong (clear number s) }
-    ensures allocation { (w : Setting) (node : NodeId) (t : TypeId) (n : ℕ) (s : State) → IsNotWrong (allocate w node t n s) }
-    ensures elements { (w : Setting) (node : NodeId) (t : TypeId) (a b : ℕ) (s : State) → IsNotWrong (allocate_elements w node t a b s) }
-    ensures first_element { (w : Setting) (at : Place) (node : NodeId) (t : TypeId) (p : Pointer) (s : State) → IsNotWrong (allocated_for w at node t p s) }
+    ensures clearing { (number : ℕ) (o : Object) (s : State) → slice_get s.memory.objects number
+        ≡ Some o → IsTrue o.live → IsNotWrong (clear number s) }
+    ensures allocation { (w : Setting) (node : NodeId) (t : TypeId) (n : ℕ) (s : State)
+        → IsNotWrong (allocate w node t n s) }
+    ensures elements { (w : Setting) (node : NodeId) (t : TypeId) (a b : ℕ) (s : State)
+        → IsNotWrong (allocate_elements w node t a b s) }
+    ensures first_element { (w : Setting) (at : Place) (node : NodeId) (t : TypeId) (p : Pointer)
+        (s : State) → IsNotWrong (allocated_for w at node t p s) }
 {}
 
 /// A call begins wrong nowhere, where its arguments are values of its parameters, and ends wrong nowhere.
 pub fn calls_and_returns_are_not_wrong()
     ensures entry { EntryIsNotWrong }
-    ensures leaving { (w : Setting) (depth : ℕ) (variables : List Planned) (s : State) → IsNotWrong (leave w depth variables s) }
+    ensures leaving { (w : Setting) (depth : ℕ) (variables : List Planned) (s : State)
+        → IsNotWrong (leave w depth variables s) }
 {}
 
 /// Input, output, the end of a run, a turn and an operator on integers with its condition before it are wrong nowhere.
@@ -128,5 +153,6 @@ pub fn input_output_and_integers_are_not_wrong()
     ensures writing { (z : ℤ) (s : State) → IsNotWrong (put z s) }
     ensures ending { (z : ℤ) (s : State) → IsNotWrong (exit {A = Value} z s) }
     ensures turning { (s : State) → IsNotWrong (turn s) }
-    ensures calculating { (w : Setting) (at : Place) (operator : Operator) (t : IntegerType) (x y : ℤ) (s : State) → IsNotWrong (calculate w at operator t x y s) }
+    ensures calculating { (w : Setting) (at : Place) (operator : Operator) (t : IntegerType)
+        (x y : ℤ) (s : State) → IsNotWrong (calculate w at operator t x y s) }
 {}

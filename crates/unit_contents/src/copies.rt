@@ -29,7 +29,8 @@ pub(crate) fn ask_copies(
     d: &TypedDeclarator,
     i: &TypedInitialiser,
 )
-    ensures { Asks (copies_to k.now.types.now (home_node (home_of (typed_declarator_view d.now))) (typed_initialiser_view i.now)) out.old out.new }
+    ensures { Asks (copies_to k.now.types.now (home_node (home_of (typed_declarator_view d.now)))
+        (typed_initialiser_view i.now)) out.old out.new }
 {
     match declared_home(d) {
         Home::None => ask_nothing(out),
@@ -55,7 +56,8 @@ fn copies(out: &mut Collected, k: &Scope<'_>, node: NodeId, i: &TypedInitialiser
 
 #[cycle(copies)]
 fn copies_of_items(out: &mut Collected, k: &Scope<'_>, node: NodeId, all: &[TypedItem])
-    ensures { Asks (copies_in_items k.now.types.now node (added typed.NoItem (map typed_item_view all.now))) out.old out.new }
+    ensures { Asks (copies_in_items k.now.types.now node
+        (added typed.NoItem (map typed_item_view all.now))) out.old out.new }
 {
     for one in all {
         copies_of_item(out, k, node, one)
@@ -65,7 +67,9 @@ fn copies_of_items(out: &mut Collected, k: &Scope<'_>, node: NodeId, all: &[Type
 /// The sites of an item behind others.
 #[cycle(copies)]
 fn copies_of_item(out: &mut Collected, k: &Scope<'_>, node: NodeId, one: &TypedItem)
-    ensures { (all : typed.TypedItems) (start : Seen) → Asks (copies_in_items k.now.types.now node all) start out.old → Asks (copies_in_items k.now.types.now node (typed_item_view one.now all)) start out.new }
+    ensures { (all : typed.TypedItems) (start : Seen) → Asks
+        (copies_in_items k.now.types.now node all) start out.old
+        → Asks (copies_in_items k.now.types.now node (typed_item_view one.now all)) start out.new }
 {
     copies(out, k, node, &one.initialiser)
 }

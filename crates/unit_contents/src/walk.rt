@@ -19,7 +19,8 @@ use unit_parts::{Collected, Scope, declarator, expr, keep, place, specifiers};
 /// An initialiser.
 #[cycle(initialisers)]
 fn initialiser(out: &mut Collected, k: &Scope<'_>, one: &TypedInitialiser)
-    ensures { Collects k.now.types.now (made_by_initialiser (typed_initialiser_view one.now)) (pieces_of_initialiser (typed_initialiser_view one.now)) out.old out.new }
+    ensures { Collects k.now.types.now (made_by_initialiser (typed_initialiser_view one.now))
+        (pieces_of_initialiser (typed_initialiser_view one.now)) out.old out.new }
 {
     match one {
         TypedInitialiser::Value(e) => expr(out, k, e),
@@ -31,7 +32,9 @@ fn initialiser(out: &mut Collected, k: &Scope<'_>, one: &TypedInitialiser)
 
 #[cycle(initialisers)]
 fn items(out: &mut Collected, k: &Scope<'_>, all: &[TypedItem])
-    ensures { Collects k.now.types.now (made_by_items (added typed.NoItem (map typed_item_view all.now))) (pieces_of_items (added typed.NoItem (map typed_item_view all.now))) out.old out.new }
+    ensures { Collects k.now.types.now (made_by_items (added typed.NoItem
+        (map typed_item_view all.now))) (pieces_of_items
+        (added typed.NoItem (map typed_item_view all.now))) out.old out.new }
 {
     for one in all {
         item(out, k, one)
@@ -41,14 +44,22 @@ fn items(out: &mut Collected, k: &Scope<'_>, all: &[TypedItem])
 /// An item behind others.
 #[cycle(initialisers)]
 fn item(out: &mut Collected, k: &Scope<'_>, one: &TypedItem)
-    ensures { (all : typed.TypedItems) (start : Seen) → Collects k.now.types.now (made_by_items all) (pieces_of_items all) start out.old → Collects k.now.types.now (made_by_items (typed_item_view one.now all)) (pieces_of_items (typed_item_view one.now all)) start out.new }
+    ensures { (all : typed.TypedItems) (start : Seen) → Collects k.now.types.now (made_by_items all)
+        (pieces_of_items all) start out.old → Collects k.now.types.now
+        (made_by_items (typed_item_view one.now all))
+        (pieces_of_items (typed_item_view one.now all)) start out.new }
 {
     initialiser(out, k, &one.initialiser)
 }
 
 /// A declarator with or without an initialiser, behind others.
 fn init_declarator(out: &mut Collected, k: &Scope<'_>, one: &TypedInitDeclarator)
-    ensures { (all : typed.TypedInitDeclarators) (start : Seen) → Collects k.now.types.now (made_by_init_declarators all) (pieces_of_init_declarators all) start out.old → Collects k.now.types.now (made_by_init_declarators (typed_init_declarator_view one.now all)) (pieces_of_init_declarators (typed_init_declarator_view one.now all)) start out.new }
+    ensures { (all : typed.TypedInitDeclarators) (start : Seen)
+        → Collects k.now.types.now (made_by_init_declarators all)
+        (pieces_of_init_declarators all) start out.old
+        → Collects k.now.types.now (made_by_init_declarators
+        (typed_init_declarator_view one.now all))
+        (pieces_of_init_declarators (typed_init_declarator_view one.now all)) start out.new }
 {
     match one {
         TypedInitDeclarator::Plain(d) => declarator(out, k, d),
@@ -61,7 +72,10 @@ fn init_declarator(out: &mut Collected, k: &Scope<'_>, one: &TypedInitDeclarator
 }
 
 fn init_declarators(out: &mut Collected, k: &Scope<'_>, all: &[TypedInitDeclarator])
-    ensures { Collects k.now.types.now (made_by_init_declarators (added typed.NoInitDeclarator (map typed_init_declarator_view all.now))) (pieces_of_init_declarators (added typed.NoInitDeclarator (map typed_init_declarator_view all.now))) out.old out.new }
+    ensures { Collects k.now.types.now (made_by_init_declarators
+        (added typed.NoInitDeclarator (map typed_init_declarator_view all.now)))
+        (pieces_of_init_declarators (added typed.NoInitDeclarator
+        (map typed_init_declarator_view all.now))) out.old out.new }
 {
     for one in all {
         init_declarator(out, k, one)
@@ -70,7 +84,8 @@ fn init_declarators(out: &mut Collected, k: &Scope<'_>, all: &[TypedInitDeclarat
 
 /// A declaration.
 fn declaration(out: &mut Collected, k: &Scope<'_>, one: &TypedDeclaration)
-    ensures { Collects k.now.types.now (made_by_declaration (typed_declaration_view one.now)) (pieces_of_declaration (typed_declaration_view one.now)) out.old out.new }
+    ensures { Collects k.now.types.now (made_by_declaration (typed_declaration_view one.now))
+        (pieces_of_declaration (typed_declaration_view one.now)) out.old out.new }
 {
     specifiers(out, k, &one.specifiers);
     init_declarators(out, k, one.declarators.as_slice())
@@ -78,7 +93,8 @@ fn declaration(out: &mut Collected, k: &Scope<'_>, one: &TypedDeclaration)
 
 /// An expression that may be left out.
 fn optional(out: &mut Collected, k: &Scope<'_>, one: &Option<TypedExpr>)
-    ensures { Collects k.now.types.now (made_by_optional (option_map typed_expr_view one.now)) (pieces_of_optional (option_map typed_expr_view one.now)) out.old out.new }
+    ensures { Collects k.now.types.now (made_by_optional (option_map typed_expr_view one.now))
+        (pieces_of_optional (option_map typed_expr_view one.now)) out.old out.new }
 {
     match one {
         Some(e) => expr(out, k, e),
@@ -89,7 +105,8 @@ fn optional(out: &mut Collected, k: &Scope<'_>, one: &Option<TypedExpr>)
 /// A statement.
 #[cycle(statements)]
 fn statement(out: &mut Collected, k: &Scope<'_>, one: &TypedStatement)
-    ensures { Collects k.now.types.now (made_by_statement (typed_statement_view one.now)) (pieces_of_statement (typed_statement_view one.now)) out.old out.new }
+    ensures { Collects k.now.types.now (made_by_statement (typed_statement_view one.now))
+        (pieces_of_statement (typed_statement_view one.now)) out.old out.new }
 {
     match one {
         TypedStatement::Block(_, items) => block(out, k, items.as_slice()),
@@ -137,7 +154,8 @@ fn statement(out: &mut Collected, k: &Scope<'_>, one: &TypedStatement)
 /// What a block holds.
 #[cycle(statements)]
 pub fn block(out: &mut Collected, k: &Scope<'_>, all: &[TypedBlockItem])
-    ensures { Collects k.now.types.now (made_by_block_items (typed_block_view all.now)) (pieces_of_block_items (typed_block_view all.now)) out.old out.new }
+    ensures { Collects k.now.types.now (made_by_block_items (typed_block_view all.now))
+        (pieces_of_block_items (typed_block_view all.now)) out.old out.new }
 {
     for one in all {
         block_item(out, k, one)
@@ -147,7 +165,11 @@ pub fn block(out: &mut Collected, k: &Scope<'_>, all: &[TypedBlockItem])
 /// An item of a block behind others.
 #[cycle(statements)]
 fn block_item(out: &mut Collected, k: &Scope<'_>, one: &TypedBlockItem)
-    ensures { (all : typed.TypedBlockItems) (start : Seen) → Collects k.now.types.now (made_by_block_items all) (pieces_of_block_items all) start out.old → Collects k.now.types.now (made_by_block_items (typed_block_item_view one.now all)) (pieces_of_block_items (typed_block_item_view one.now all)) start out.new }
+    ensures { (all : typed.TypedBlockItems) (start : Seen)
+        → Collects k.now.types.now (made_by_block_items all)
+        (pieces_of_block_items all) start out.old → Collects k.now.types.now
+        (made_by_block_items (typed_block_item_view one.now all))
+        (pieces_of_block_items (typed_block_item_view one.now all)) start out.new }
 {
     match one {
         TypedBlockItem::Statement(s) => statement(out, k, s),
@@ -159,7 +181,10 @@ fn block_item(out: &mut Collected, k: &Scope<'_>, one: &TypedBlockItem)
 
 /// A declaration or a function, behind what comes before it.
 fn external(out: &mut Collected, k: &Scope<'_>, one: &TypedExternal)
-    ensures { (all : typed.TypedTranslationUnit) (start : Seen) → Collects k.now.types.now (made_by_unit all) (pieces_of_unit all) start out.old → Collects k.now.types.now (made_by_unit (typed_external_view one.now all)) (pieces_of_unit (typed_external_view one.now all)) start out.new }
+    ensures { (all : typed.TypedTranslationUnit) (start : Seen)
+        → Collects k.now.types.now (made_by_unit all) (pieces_of_unit all) start out.old
+        → Collects k.now.types.now (made_by_unit (typed_external_view one.now all))
+        (pieces_of_unit (typed_external_view one.now all)) start out.new }
 {
     match one {
         TypedExternal::Declaration(d) => declaration(out, k, d),
@@ -172,7 +197,9 @@ fn external(out: &mut Collected, k: &Scope<'_>, one: &TypedExternal)
 }
 
 fn externals(out: &mut Collected, k: &Scope<'_>, all: &[TypedExternal])
-    ensures { Collects k.now.types.now (made_by_unit (added typed.NoExternal (map typed_external_view all.now))) (pieces_of_unit (added typed.NoExternal (map typed_external_view all.now))) out.old out.new }
+    ensures { Collects k.now.types.now (made_by_unit (added typed.NoExternal
+        (map typed_external_view all.now))) (pieces_of_unit
+        (added typed.NoExternal (map typed_external_view all.now))) out.old out.new }
 {
     for one in all {
         external(out, k, one)
@@ -181,7 +208,8 @@ fn externals(out: &mut Collected, k: &Scope<'_>, all: &[TypedExternal])
 
 /// A unit.
 pub fn unit(out: &mut Collected, k: &Scope<'_>, one: &TypedUnit)
-    ensures { Collects k.now.types.now (made_by_unit (typed_unit_view one.now)) (pieces_of_unit (typed_unit_view one.now)) out.old out.new }
+    ensures { Collects k.now.types.now (made_by_unit (typed_unit_view one.now))
+        (pieces_of_unit (typed_unit_view one.now)) out.old out.new }
 {
     externals(out, k, one.externals.as_slice())
 }

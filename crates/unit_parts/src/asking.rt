@@ -70,7 +70,8 @@ pub(crate) fn named_type(name: &TypedTypeName) -> TypeId
 
 /// The type of the operand that is the pointer.
 pub(crate) fn pointer_type(which: Side, a: &TypedExpr, b: &TypedExpr) -> TypeId
-    ensures { result ≡ type_of (pointer_side which (typed_expr_view a.now) (typed_expr_view b.now)) }
+    ensures { result ≡ type_of (pointer_side which (typed_expr_view a.now)
+        (typed_expr_view b.now)) }
 {
     match which {
         Side::Left => a.ty(),
@@ -100,7 +101,8 @@ pub(crate) fn address_at(k: &Scope<'_>, p: &TypedPlace) -> NodeId
 
 /// A node is WILD exactly where the address of the place is.
 pub(crate) fn ask_link(out: &mut Collected, k: &Scope<'_>, node: NodeId, p: &TypedPlace)
-    ensures { Asks (site.Linked node (address_at k.now.types.now (typed_place_view p.now)) ∷ []) out.old out.new }
+    ensures { Asks (site.Linked node (address_at k.now.types.now (typed_place_view p.now)) ∷ [])
+        out.old out.new }
 {
     let to = address_at(k, p);
     ask(out, Site::Linked { a: node, b: to })
@@ -224,7 +226,8 @@ pub(crate) fn ask_member(
     t: TypeId,
     p: &TypedPlace,
 )
-    ensures { Asks (site.Pointee node t ∷ linked_to k.now.types.now node (typed_place_view p.now)) out.old out.new }
+    ensures { Asks (site.Pointee node t ∷ linked_to k.now.types.now node (typed_place_view p.now))
+        out.old out.new }
 {
     ask(out, Site::Pointee { node, ty: t });
     ask_links(out, k, node, p)
@@ -233,7 +236,8 @@ pub(crate) fn ask_member(
 /// A member's place is an address of a part of the struct that a pointer of type u points to.
 #[tactic(auto, using(crate::proofs::Rules::both_rules))]
 pub(crate) fn ask_member_at(out: &mut Collected, k: &Scope<'_>, node: NodeId, t: TypeId, u: TypeId)
-    ensures { Asks (site.Pointee node t ∷ site.Linked node (node_at k.now.types.now u) ∷ []) out.old out.new }
+    ensures { Asks (site.Pointee node t ∷ site.Linked node (node_at k.now.types.now u) ∷ []) out.old
+        out.new }
 {
     ask(out, Site::Pointee { node, ty: t });
     let to = node_at(k, u);

@@ -57,7 +57,8 @@ pub(crate) fn put_name(
 /// Appends an object that lives as long as the program.
 #[tactic(auto, using(crate::proofs::Rules::made_rules))]
 fn put_static(out: &mut Collected, k: &Scope<'_>, name: &Identifier, home: NodeId, ty: TypeId)
-    ensures { Collects k.now.types.now (parts.Name name.now (homes.Static home) ty ∷ []) [] out.old out.new }
+    ensures { Collects k.now.types.now (parts.Name name.now (homes.Static home) ty ∷ []) [] out.old
+        out.new }
 {
     let _ = k;
     let _ = name;
@@ -73,7 +74,8 @@ fn put_static(out: &mut Collected, k: &Scope<'_>, name: &Identifier, home: NodeI
 /// Appends an object that lives as long as a call.
 #[tactic(auto, using(crate::proofs::Rules::made_rules))]
 fn put_local(out: &mut Collected, k: &Scope<'_>, name: &Identifier, home: NodeId, ty: TypeId)
-    ensures { Collects k.now.types.now (parts.Name name.now (homes.Local home) ty ∷ []) [] out.old out.new }
+    ensures { Collects k.now.types.now (parts.Name name.now (homes.Local home) ty ∷ []) [] out.old
+        out.new }
 {
     let _ = k;
     let _ = name;

@@ -23,7 +23,9 @@ use cc_base::TypeId;
 /// Arguments in order.
 #[cycle(collecting)]
 fn arguments(out: &mut Collected, k: &Scope<'_>, all: &[TypedExpr])
-    ensures { Collects k.now.types.now (made_by_arguments (typed_arguments_of (map typed_expr_view all.now))) (pieces_of_arguments (typed_arguments_of (map typed_expr_view all.now))) out.old out.new }
+    ensures { Collects k.now.types.now (made_by_arguments
+        (typed_arguments_of (map typed_expr_view all.now)))
+        (pieces_of_arguments (typed_arguments_of (map typed_expr_view all.now))) out.old out.new }
 {
     for e in all {
         expr(out, k, e)
@@ -43,7 +45,8 @@ fn callee(out: &mut Collected, k: &Scope<'_>, f: &TypedExpr)
 /// An expression.
 #[cycle(collecting)]
 pub fn expr(out: &mut Collected, k: &Scope<'_>, e: &TypedExpr)
-    ensures { Collects k.now.types.now (made_by (typed_expr_view e.now)) (pieces_of (typed_expr_view e.now)) out.old out.new }
+    ensures { Collects k.now.types.now (made_by (typed_expr_view e.now))
+        (pieces_of (typed_expr_view e.now)) out.old out.new }
 {
     match e {
         TypedExpr::Integer(_, _, _, _) => keep(out, k),
@@ -221,7 +224,8 @@ pub fn expr(out: &mut Collected, k: &Scope<'_>, e: &TypedExpr)
 /// A place.
 #[cycle(collecting)]
 pub fn place(out: &mut Collected, k: &Scope<'_>, p: &TypedPlace)
-    ensures { Collects k.now.types.now (made_by_place (typed_place_view p.now)) (pieces_of_place (typed_place_view p.now)) out.old out.new }
+    ensures { Collects k.now.types.now (made_by_place (typed_place_view p.now))
+        (pieces_of_place (typed_place_view p.now)) out.old out.new }
 {
     match p {
         TypedPlace::Variable(_, _, _) => keep(out, k),
@@ -279,7 +283,8 @@ pub fn place(out: &mut Collected, k: &Scope<'_>, p: &TypedPlace)
 /// The name of a type.
 #[cycle(collecting)]
 fn type_name(out: &mut Collected, k: &Scope<'_>, one: &TypedTypeName)
-    ensures { Collects k.now.types.now (made_by_type_name (typed_type_name_view one.now)) (pieces_of_type_name (typed_type_name_view one.now)) out.old out.new }
+    ensures { Collects k.now.types.now (made_by_type_name (typed_type_name_view one.now))
+        (pieces_of_type_name (typed_type_name_view one.now)) out.old out.new }
 {
     specifiers(out, k, &one.specifiers);
     declared(out, k, &one.declarator, one.ty)
@@ -288,14 +293,18 @@ fn type_name(out: &mut Collected, k: &Scope<'_>, one: &TypedTypeName)
 /// Specifiers.
 #[cycle(collecting)]
 pub fn specifiers(out: &mut Collected, k: &Scope<'_>, one: &TypedSpecifiers)
-    ensures { Collects k.now.types.now (made_by_specifiers (typed_specifiers_view one.now)) (pieces_of_specifiers (typed_specifiers_view one.now)) out.old out.new }
+    ensures { Collects k.now.types.now (made_by_specifiers (typed_specifiers_view one.now))
+        (pieces_of_specifiers (typed_specifiers_view one.now)) out.old out.new }
 {
     specifier_list(out, k, one.list.as_slice())
 }
 
 #[cycle(collecting)]
 fn specifier_list(out: &mut Collected, k: &Scope<'_>, all: &[TypedSpecifier])
-    ensures { Collects k.now.types.now (made_by_specifier_list (typed_specifiers_of (map typed_specifier_view all.now))) (pieces_of_specifier_list (typed_specifiers_of (map typed_specifier_view all.now))) out.old out.new }
+    ensures { Collects k.now.types.now (made_by_specifier_list
+        (typed_specifiers_of (map typed_specifier_view all.now)))
+        (pieces_of_specifier_list (typed_specifiers_of (map typed_specifier_view all.now))) out.old
+        out.new }
 {
     for one in all {
         specifier(out, k, one)
@@ -304,7 +313,8 @@ fn specifier_list(out: &mut Collected, k: &Scope<'_>, all: &[TypedSpecifier])
 
 #[cycle(collecting)]
 fn specifier(out: &mut Collected, k: &Scope<'_>, one: &TypedSpecifier)
-    ensures { Collects k.now.types.now (made_by_specifier (typed_specifier_view one.now)) (pieces_of_specifier (typed_specifier_view one.now)) out.old out.new }
+    ensures { Collects k.now.types.now (made_by_specifier (typed_specifier_view one.now))
+        (pieces_of_specifier (typed_specifier_view one.now)) out.old out.new }
 {
     match one {
         TypedSpecifier::Keyword(_) => keep(out, k),
@@ -321,7 +331,9 @@ fn specifier(out: &mut Collected, k: &Scope<'_>, one: &TypedSpecifier)
 
 #[cycle(collecting)]
 fn member_rows(out: &mut Collected, k: &Scope<'_>, all: &[TypedMembers])
-    ensures { Collects k.now.types.now (made_by_members (added typed.NoMember (map typed_members_view all.now))) (pieces_of_members (added typed.NoMember (map typed_members_view all.now))) out.old out.new }
+    ensures { Collects k.now.types.now (made_by_members (added typed.NoMember
+        (map typed_members_view all.now))) (pieces_of_members
+        (added typed.NoMember (map typed_members_view all.now))) out.old out.new }
 {
     for row in all {
         member_row(out, k, row)
@@ -331,7 +343,10 @@ fn member_rows(out: &mut Collected, k: &Scope<'_>, all: &[TypedMembers])
 /// A row of members behind others.
 #[cycle(collecting)]
 fn member_row(out: &mut Collected, k: &Scope<'_>, row: &TypedMembers)
-    ensures { (all : typed.TypedMembers) (start : Seen) → Collects k.now.types.now (made_by_members all) (pieces_of_members all) start out.old → Collects k.now.types.now (made_by_members (typed_members_view row.now all)) (pieces_of_members (typed_members_view row.now all)) start out.new }
+    ensures { (all : typed.TypedMembers) (start : Seen) → Collects k.now.types.now
+        (made_by_members all) (pieces_of_members all) start out.old
+        → Collects k.now.types.now (made_by_members (typed_members_view row.now all))
+        (pieces_of_members (typed_members_view row.now all)) start out.new }
 {
     specifiers(out, k, &row.specifiers);
     member_declarators(out, k, row.declarators.as_slice())
@@ -339,7 +354,10 @@ fn member_row(out: &mut Collected, k: &Scope<'_>, row: &TypedMembers)
 
 #[cycle(collecting)]
 fn member_declarators(out: &mut Collected, k: &Scope<'_>, all: &[TypedDeclarator])
-    ensures { Collects k.now.types.now (made_by_member_declarators (typed_member_declarators_of (map typed_declarator_view all.now))) (pieces_of_member_declarators (typed_member_declarators_of (map typed_declarator_view all.now))) out.old out.new }
+    ensures { Collects k.now.types.now (made_by_member_declarators
+        (typed_member_declarators_of (map typed_declarator_view all.now)))
+        (pieces_of_member_declarators (typed_member_declarators_of
+        (map typed_declarator_view all.now))) out.old out.new }
 {
     for one in all {
         declarator(out, k, one)
@@ -348,7 +366,10 @@ fn member_declarators(out: &mut Collected, k: &Scope<'_>, all: &[TypedDeclarator
 
 #[cycle(collecting)]
 fn enumerators(out: &mut Collected, k: &Scope<'_>, all: &[TypedEnumerator])
-    ensures { Collects k.now.types.now (made_by_enumerators (added typed.NoEnumerator (map typed_enumerator_view all.now))) (pieces_of_enumerators (added typed.NoEnumerator (map typed_enumerator_view all.now))) out.old out.new }
+    ensures { Collects k.now.types.now (made_by_enumerators
+        (added typed.NoEnumerator (map typed_enumerator_view all.now)))
+        (pieces_of_enumerators (added typed.NoEnumerator (map typed_enumerator_view all.now)))
+        out.old out.new }
 {
     for one in all {
         enumerator(out, k, one)
@@ -358,7 +379,11 @@ fn enumerators(out: &mut Collected, k: &Scope<'_>, all: &[TypedEnumerator])
 /// An enumerator behind others.
 #[cycle(collecting)]
 fn enumerator(out: &mut Collected, k: &Scope<'_>, one: &TypedEnumerator)
-    ensures { (all : typed.TypedEnumerators) (start : Seen) → Collects k.now.types.now (made_by_enumerators all) (pieces_of_enumerators all) start out.old → Collects k.now.types.now (made_by_enumerators (typed_enumerator_view one.now all)) (pieces_of_enumerators (typed_enumerator_view one.now all)) start out.new }
+    ensures { (all : typed.TypedEnumerators) (start : Seen)
+        → Collects k.now.types.now (made_by_enumerators all)
+        (pieces_of_enumerators all) start out.old → Collects k.now.types.now
+        (made_by_enumerators (typed_enumerator_view one.now all))
+        (pieces_of_enumerators (typed_enumerator_view one.now all)) start out.new }
 {
     match one {
         TypedEnumerator::Plain(_, _) => keep(out, k),
@@ -369,14 +394,17 @@ fn enumerator(out: &mut Collected, k: &Scope<'_>, one: &TypedEnumerator)
 /// A declarator.
 #[cycle(collecting)]
 pub fn declarator(out: &mut Collected, k: &Scope<'_>, one: &TypedDeclarator)
-    ensures { Collects k.now.types.now (made_by_declarator (typed_declarator_view one.now)) (pieces_of_declarator (typed_declarator_view one.now)) out.old out.new }
+    ensures { Collects k.now.types.now (made_by_declarator (typed_declarator_view one.now))
+        (pieces_of_declarator (typed_declarator_view one.now)) out.old out.new }
 {
     form(out, k, &one.form, one.ty)
 }
 
 #[cycle(collecting)]
 fn declared(out: &mut Collected, k: &Scope<'_>, one: &Option<TypedForm>, t: TypeId)
-    ensures { Collects k.now.types.now (made_by_declared (typed_declared_of (option_map typed_form_view one.now)) t) (pieces_of_declared (typed_declared_of (option_map typed_form_view one.now))) out.old out.new }
+    ensures { Collects k.now.types.now (made_by_declared (typed_declared_of
+        (option_map typed_form_view one.now)) t) (pieces_of_declared
+        (typed_declared_of (option_map typed_form_view one.now))) out.old out.new }
 {
     match one {
         Some(one) => form(out, k, one, t),
@@ -386,7 +414,8 @@ fn declared(out: &mut Collected, k: &Scope<'_>, one: &Option<TypedForm>, t: Type
 
 #[cycle(collecting)]
 fn form(out: &mut Collected, k: &Scope<'_>, one: &TypedForm, t: TypeId)
-    ensures { Collects k.now.types.now (made_by_form (typed_form_view one.now) t) (pieces_of_form (typed_form_view one.now)) out.old out.new }
+    ensures { Collects k.now.types.now (made_by_form (typed_form_view one.now) t)
+        (pieces_of_form (typed_form_view one.now)) out.old out.new }
 {
     core(out, k, &one.core, t);
     parts_behind(out, k, one.parts.as_slice())
@@ -394,7 +423,8 @@ fn form(out: &mut Collected, k: &Scope<'_>, one: &TypedForm, t: TypeId)
 
 #[cycle(collecting)]
 fn core(out: &mut Collected, k: &Scope<'_>, one: &TypedCore, t: TypeId)
-    ensures { Collects k.now.types.now (made_by_core (typed_core_view one.now) t) (pieces_of_core (typed_core_view one.now)) out.old out.new }
+    ensures { Collects k.now.types.now (made_by_core (typed_core_view one.now) t)
+        (pieces_of_core (typed_core_view one.now)) out.old out.new }
 {
     match one {
         TypedCore::Names(name, home) => put_name(out, k, name, *home, t),
@@ -405,7 +435,9 @@ fn core(out: &mut Collected, k: &Scope<'_>, one: &TypedCore, t: TypeId)
 
 #[cycle(collecting)]
 fn parts_behind(out: &mut Collected, k: &Scope<'_>, all: &[TypedPart])
-    ensures { Collects k.now.types.now (made_by_parts (added typed.NoPart (map typed_part_view all.now))) (pieces_of_parts (added typed.NoPart (map typed_part_view all.now))) out.old out.new }
+    ensures { Collects k.now.types.now (made_by_parts (added typed.NoPart
+        (map typed_part_view all.now))) (pieces_of_parts
+        (added typed.NoPart (map typed_part_view all.now))) out.old out.new }
 {
     for one in all {
         part(out, k, one)
@@ -415,7 +447,10 @@ fn parts_behind(out: &mut Collected, k: &Scope<'_>, all: &[TypedPart])
 /// A part behind others.
 #[cycle(collecting)]
 fn part(out: &mut Collected, k: &Scope<'_>, one: &TypedPart)
-    ensures { (all : typed.TypedParts) (start : Seen) → Collects k.now.types.now (made_by_parts all) (pieces_of_parts all) start out.old → Collects k.now.types.now (made_by_parts (typed_part_view one.now all)) (pieces_of_parts (typed_part_view one.now all)) start out.new }
+    ensures { (all : typed.TypedParts) (start : Seen) → Collects k.now.types.now (made_by_parts all)
+        (pieces_of_parts all) start out.old → Collects k.now.types.now
+        (made_by_parts (typed_part_view one.now all))
+        (pieces_of_parts (typed_part_view one.now all)) start out.new }
 {
     match one {
         TypedPart::Array(_, _) => keep(out, k),
@@ -426,7 +461,10 @@ fn part(out: &mut Collected, k: &Scope<'_>, one: &TypedPart)
 
 #[cycle(collecting)]
 fn parameters(out: &mut Collected, k: &Scope<'_>, all: &[TypedParameter])
-    ensures { Collects k.now.types.now (made_by_parameters (added typed.NoParameter (map typed_parameter_view all.now))) (pieces_of_parameters (added typed.NoParameter (map typed_parameter_view all.now))) out.old out.new }
+    ensures { Collects k.now.types.now (made_by_parameters
+        (added typed.NoParameter (map typed_parameter_view all.now)))
+        (pieces_of_parameters (added typed.NoParameter (map typed_parameter_view all.now))) out.old
+        out.new }
 {
     for one in all {
         parameter(out, k, one)
@@ -436,7 +474,10 @@ fn parameters(out: &mut Collected, k: &Scope<'_>, all: &[TypedParameter])
 /// A parameter behind others.
 #[cycle(collecting)]
 fn parameter(out: &mut Collected, k: &Scope<'_>, one: &TypedParameter)
-    ensures { (all : typed.TypedParameters) (start : Seen) → Collects k.now.types.now (made_by_parameters all) (pieces_of_parameters all) start out.old → Collects k.now.types.now (made_by_parameters (typed_parameter_view one.now all)) (pieces_of_parameters (typed_parameter_view one.now all)) start out.new }
+    ensures { (all : typed.TypedParameters) (start : Seen)
+        → Collects k.now.types.now (made_by_parameters all) (pieces_of_parameters all) start out.old
+        → Collects k.now.types.now (made_by_parameters (typed_parameter_view one.now all))
+        (pieces_of_parameters (typed_parameter_view one.now all)) start out.new }
 {
     specifiers(out, k, &one.specifiers);
     declared(out, k, &one.declarator, one.ty)

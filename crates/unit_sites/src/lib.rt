@@ -20,9 +20,12 @@ ghost use Rattle.unit_sites.specs.Theorems.{PointersAreTold, FlowsAreTold, Union
 /// is the home of an object.
 pub fn the_sites_of_a_well_typed_unit_are_told()
     ensures pointers { PointersAreTold }
-    ensures objects { (table : Table) (unit : TypedTranslationUnit) → IsWellTyped table unit → Each (λ o. Contains (sites_of unit table) (Home o.node o.type)) (objects_in unit) }
+    ensures objects { (table : Table) (unit : TypedTranslationUnit) → IsWellTyped table unit
+        → Each (λ o. Contains (sites_of unit table) (Home o.node o.type)) (objects_in unit) }
     ensures flows { FlowsAreTold }
-    ensures same { (table : Table) (unit : TypedTranslationUnit) → IsWellTyped table unit → (t u : TypeId) → Contains (sites_of unit table) (Same t u) → IsTrue (physically_equal table t u) }
+    ensures same { (table : Table) (unit : TypedTranslationUnit) → IsWellTyped table unit
+        → (t u : TypeId) → Contains (sites_of unit table) (Same t u)
+        → IsTrue (physically_equal table t u) }
     ensures unions { UnionsAreTold }
     ensures pointees { PointeesAreOne }
     ensures homes { HomesAreNoPointers }

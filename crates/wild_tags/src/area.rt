@@ -84,9 +84,11 @@ impl TaggedArea {
     // Whether each tagged word from `first` up to `end` is below `limit`.
     pub(crate) fn tagged_below(self, flat: &Flat, first: u64, end: u64, limit: u64) -> bool
         requires order { first ≤ end }
-        requires tags { IsTrue (have_tags flat.now.bytes self.at self.length (counted first (end - first))) }
+        requires tags { IsTrue (have_tags flat.now.bytes self.at self.length
+            (counted first (end - first))) }
         requires small { length flat.now.bytes < 2 ^ 32 }
-        ensures { result ≡ list_all (λ i. nat_lt i limit) (filter (tag_at flat.now.bytes self.at self.length) (counted first (end - first))) }
+        ensures { result ≡ list_all (λ i. nat_lt i limit) (filter
+            (tag_at flat.now.bytes self.at self.length) (counted first (end - first))) }
     {
         let start = limit.max(first).min(end);
         for i in start..end {
@@ -134,7 +136,8 @@ impl TaggedArea {
     pub(crate) fn set_tag(self, flat: &mut Flat, i: u64, tag: bool)
         requires inside { IsTrue (in_flat flat.old.bytes (tag_byte self.at self.length i) 1) }
         requires small { length flat.old.bytes < 2 ^ 32 }
-        ensures { flat.new ≡ with_bytes flat.old (with_tag tag flat.old.bytes self.at self.length i) }
+        ensures { flat.new ≡ with_bytes flat.old
+            (with_tag tag flat.old.bytes self.at self.length i) }
     {
         flat.set_tag(self.place_of_tag(i), tag);
     }
@@ -142,9 +145,11 @@ impl TaggedArea {
     // Zeroes data word `i` where it is tagged.
     fn zero_if_tagged(self, flat: &mut Flat, i: u64)
         requires tag { IsTrue (in_flat flat.old.bytes (tag_byte self.at self.length i) 1) }
-        requires data { IsTrue (have_data flat.old.bytes self.at (filter (tag_at flat.old.bytes self.at self.length) (i ∷ []))) }
+        requires data { IsTrue (have_data flat.old.bytes self.at
+            (filter (tag_at flat.old.bytes self.at self.length) (i ∷ []))) }
         requires small { length flat.old.bytes < 2 ^ 32 }
-        ensures { flat.new ≡ with_bytes flat.old (words_zeroed (filter (tag_at flat.old.bytes self.at self.length) (i ∷ [])) flat.old.bytes self.at) }
+        ensures { flat.new ≡ with_bytes flat.old (words_zeroed
+            (filter (tag_at flat.old.bytes self.at self.length) (i ∷ [])) flat.old.bytes self.at) }
     {
         if self.is_tagged(flat, i) {
             flat.zero(self.data(i), 8);
@@ -166,10 +171,14 @@ impl TaggedArea {
     pub(crate) fn zero_tagged_up(self, flat: &mut Flat, first: u64, end: u64)
         requires order { first ≤ end }
         requires turn { end ≤ max (turn_of self.length) first }
-        requires tags { IsTrue (have_tags flat.old.bytes self.at self.length (counted first (end - first))) }
-        requires data { IsTrue (have_data flat.old.bytes self.at (filter (tag_at flat.old.bytes self.at self.length) (counted first (end - first)))) }
+        requires tags { IsTrue (have_tags flat.old.bytes self.at self.length
+            (counted first (end - first))) }
+        requires data { IsTrue (have_data flat.old.bytes self.at
+            (filter (tag_at flat.old.bytes self.at self.length) (counted first (end - first)))) }
         requires small { length flat.old.bytes < 2 ^ 32 }
-        ensures { flat.new ≡ with_bytes flat.old (words_zeroed (filter (tag_at flat.old.bytes self.at self.length) (counted first (end - first))) flat.old.bytes self.at) }
+        ensures { flat.new ≡ with_bytes flat.old (words_zeroed
+            (filter (tag_at flat.old.bytes self.at self.length) (counted first (end - first)))
+            flat.old.bytes self.at) }
     {
         for i in first..end {
             self.zero_if_tagged(flat, i);
@@ -180,10 +189,14 @@ impl TaggedArea {
     pub(crate) fn zero_tagged_down(self, flat: &mut Flat, first: u64, end: u64)
         requires order { first ≤ end }
         requires turn { min (turn_of self.length) end ≤ first }
-        requires tags { IsTrue (have_tags flat.old.bytes self.at self.length (counted first (end - first))) }
-        requires data { IsTrue (have_data flat.old.bytes self.at (filter (tag_at flat.old.bytes self.at self.length) (counted first (end - first)))) }
+        requires tags { IsTrue (have_tags flat.old.bytes self.at self.length
+            (counted first (end - first))) }
+        requires data { IsTrue (have_data flat.old.bytes self.at
+            (filter (tag_at flat.old.bytes self.at self.length) (counted first (end - first)))) }
         requires small { length flat.old.bytes < 2 ^ 32 }
-        ensures { flat.new ≡ with_bytes flat.old (words_zeroed (filter (tag_at flat.old.bytes self.at self.length) (counted first (end - first))) flat.old.bytes self.at) }
+        ensures { flat.new ≡ with_bytes flat.old (words_zeroed
+            (filter (tag_at flat.old.bytes self.at self.length) (counted first (end - first)))
+            flat.old.bytes self.at) }
     {
         for i in (first..end).rev() {
             self.zero_if_tagged(flat, i);
@@ -193,9 +206,11 @@ impl TaggedArea {
     // Clears the tags of the words from `first` up to `end`.
     pub(crate) fn clear_tags(self, flat: &mut Flat, first: u64, end: u64)
         requires order { first ≤ end }
-        requires inside { IsTrue (have_tags flat.old.bytes self.at self.length (counted first (end - first))) }
+        requires inside { IsTrue (have_tags flat.old.bytes self.at self.length
+            (counted first (end - first))) }
         requires small { length flat.old.bytes < 2 ^ 32 }
-        ensures { flat.new ≡ with_bytes flat.old (tags_cleared (counted first (end - first)) flat.old.bytes self.at self.length) }
+        ensures { flat.new ≡ with_bytes flat.old (tags_cleared
+            (counted first (end - first)) flat.old.bytes self.at self.length) }
     {
         for i in first..end {
             self.set_tag(flat, i, false);

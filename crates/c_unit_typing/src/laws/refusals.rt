@@ -12,5 +12,6 @@ ghost use Rattle.c_unit_typing.specs.UnitRefusals.{RefusesUnit};
 
 /// A unit that is refused breaks the first rule that fails in the order of its text, or has no `main` (C99 5.1.2.2.1).
 pub fn a_refused_unit_breaks_its_rule()
-    ensures { (u : tree.TranslationUnit) (p : Place) (t : Rule) (r : UnitState) → judged_unit u ≡ Stops (Refused p t) r → RefusesUnit r.table u (known_of (before_unit u)) (Refused p t) }
+    ensures { (u : tree.TranslationUnit) (p : Place) (t : Rule) (r : UnitState) → judged_unit u
+        ≡ Stops (Refused p t) r → RefusesUnit r.table u (known_of (before_unit u)) (Refused p t) }
 {}

@@ -12,6 +12,8 @@ ghost use Rattle.c_unit_typing.specs.WellTyped.{IsWellTyped};
 
 /// A unit that is given is well typed: its parts are, its nodes are numbered, and it has a `main`. It erases to the unit that was judged.
 pub fn a_judged_unit_is_well_typed()
-    ensures typed { (u : tree.TranslationUnit) (whole : TypedTranslationUnit) (r : UnitState) → judged_unit u ≡ Gives whole r → IsWellTyped r.table whole }
-    ensures erases { (u : tree.TranslationUnit) (whole : TypedTranslationUnit) (r : UnitState) → judged_unit u ≡ Gives whole r → erased_unit whole ≡ u }
+    ensures typed { (u : tree.TranslationUnit) (whole : TypedTranslationUnit) (r : UnitState)
+        → judged_unit u ≡ Gives whole r → IsWellTyped r.table whole }
+    ensures erases { (u : tree.TranslationUnit) (whole : TypedTranslationUnit) (r : UnitState)
+        → judged_unit u ≡ Gives whole r → erased_unit whole ≡ u }
 {}

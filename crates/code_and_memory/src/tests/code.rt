@@ -1,3 +1,5 @@
+//! Programs of the flat machine that are held, and each fault that refuses one.
+
 use cc_base::{Check, Place};
 use cured_code::{
     AreaLine, Bytes, Code, Cured, Function, Functions, GlobalLine, Globals, Instr, Locals, Narrow,

@@ -1,4 +1,4 @@
-// What no clause says: where worked examples put their areas and bytes, and that each call can succeed.
+//! What no clause says: where worked examples put their areas and bytes, and that each call can succeed.
 
 ghost use Rattle.std.specs.Prelude.{◌≡◌, ◌<◌, IfOk, length};
 ghost use Rattle.flat_mem.specs.Memory.{newest_addresses};

@@ -1,4 +1,4 @@
-// What no clause says: where worked examples put words, base words and tags, and that each call can be made.
+//! What no clause says: where worked examples put words, base words and tags, and that each call can be made.
 
 ghost use Rattle.std.specs.Prelude.{◌≡◌, IfOk, IsTrue};
 ghost use Rattle.flat_mem.specs.Placement.{IsWithinLimits};

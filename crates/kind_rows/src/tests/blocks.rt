@@ -1,3 +1,5 @@
+//! What a program tells of its nodes and types, and that temporaries of two sorts differ.
+
 ghost use Rattle.std.specs.Prelude.{◌≡◌};
 
 use c_types::{TypeList, TypeShape, Types};

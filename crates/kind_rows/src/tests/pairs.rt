@@ -1,3 +1,5 @@
+//! Pairs of types, and how a pointer flows from one to the other.
+
 ghost use Rattle.std.specs.Prelude.{◌≡◌, [], length, IsTrue};
 ghost use Rattle.std.specs.List.{All};
 ghost use Rattle.c_types.specs.Table.{IsType, IsComplete, IsAggregate, members_at};

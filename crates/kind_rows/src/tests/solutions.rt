@@ -1,3 +1,5 @@
+//! Worked lists of constraints, with the kinds and the causes that solve them.
+
 ghost use Rattle.std.specs.Prelude.{◌≡◌, ◌<◌, length};
 ghost use Rattle.kind_solver.specs.Constraints.{IsWithin};
 

@@ -1,7 +1,7 @@
 //! The scopes that are open inside the file's.
 #![tactic(auto)]
 
-ghost use Rattle.std.specs.Prelude.{◌≡◌, ◌<◌, [], ◌∷◌, ◌++◌, length, OnOk, OnErr, IfSome, None, Some, option_copied};
+ghost use Rattle.std.specs.Prelude.{◌≡◌, ◌<◌, ◌^◌, [], ◌∷◌, ◌++◌, length, OnOk, OnErr, IfSome, None, Some, option_copied};
 ghost use Rattle.c_typing.specs.Scopes.{at_innermost, empty_level, entry_of, innermost, name_in, tag_in, with_name, with_tag_set, without_innermost};
 
 use crate::declared::{Declared, Tag};
@@ -46,7 +46,8 @@ impl InnerScopes {
 
     /// How many they are.
     pub(crate) fn len(&self) -> usize
-        ensures { result ≡ length self.now }
+        ensures count { result ≡ length self.now }
+        ensures small { result < 2 ^ 63 }
     {
         self.levels.len()
     }

@@ -23,6 +23,13 @@ returns-in-Some-clause-level c = λ more.
     ∙ ap (λ x. Some x) (sym (innermost-last c.self.inside.levels.items l some))
     ∙ ap (λ ls. Some (innermost ls)) c.self.view_is
 
+pub returns-in-None-clause-level : goal.returns-in-None-clause-level
+returns-in-None-clause-level c = λ more.
+    let some : 0 < length c.self.inside.levels.items = subst (λ ls. 0 < length ls) (sym c.self.view_is) more in
+    let e = c.self.inside.levels.ok.0 in
+    let none = c.in-None.ensures.cases.0 in
+    absurd (omega (arith, e, none, some))
+
 pub invariant_of-self : goal.invariant_of-self
 invariant_of-self c =
     let s = c.self.inside in (

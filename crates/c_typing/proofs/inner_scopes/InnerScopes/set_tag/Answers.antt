@@ -10,6 +10,14 @@ overflow_sub-last c =
     let count : c.len-last.result ≡ length s.levels.items = c.len-last.ensures ∙ s.levels.ok.0 in
     omega (arith, count, some)
 
+pub index-requires : goal.index-requires
+index-requires c =
+    let s = c.self.inside in
+    let some : 0 < length s.levels.items = subst (λ ls. 0 < length ls) (sym c.self.view_is) c.requires in
+    let len = c.len-last.ensures in
+    let count : c.len-last.result ≡ length s.levels.items = c.len-last.ensures ∙ s.levels.ok.0 in
+    omega (arith, len, count, some)
+
 pub replace_tag-requires : goal.replace_tag-requires
 replace_tag-requires c =
     let s = c.self.inside in

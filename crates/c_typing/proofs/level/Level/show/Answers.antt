@@ -7,7 +7,7 @@ pub returns-in_err-push_all-clause-same_names : goal.returns-in_err-push_all-cla
 returns-in_err-push_all-clause-same_names c = on-err _ c.from_residual.result (λ outer are. are)
 
 pub returns-in_err-push_all-clause-same_tags : goal.returns-in_err-push_all-clause-same_tags
-returns-in_err-push_all-clause-same_tags c = on-err _ c.from_residual.result (same-kept _ _ c.in_err-push_all.ensures.unchanged)
+returns-in_err-push_all-clause-same_tags c = on-err _ c.from_residual.result (same-kept c.args.tags.now c.push_all.new.self c.in_err-push_all.ensures.unchanged)
 
 pub returns-in-Ok-clause-names : goal.returns-in-Ok-clause-names
 returns-in-Ok-clause-names c = subst (λ l. GetsList l.names c.args.names.now c.push_all-2.new.self) c.self.view_is c.in-Ok.ensures.pushed
@@ -16,7 +16,7 @@ pub returns-in-Ok-clause-tags : goal.returns-in-Ok-clause-tags
 returns-in-Ok-clause-tags c = subst (λ l. GetsList l.tags c.args.tags.now c.push_all.new.self) c.self.view_is c.in_ok-push_all.ensures.pushed
 
 pub returns-in-Err-clause-same_names : goal.returns-in-Err-clause-same_names
-returns-in-Err-clause-same_names c = same-kept _ _ c.in-Err.ensures.unchanged
+returns-in-Err-clause-same_names c = same-kept c.args.names.now c.push_all-2.new.self c.in-Err.ensures.unchanged
 
 pub returns-in-Err-clause-same_tags : goal.returns-in-Err-clause-same_tags
 returns-in-Err-clause-same_tags c = λ outer are. c.pop_all.ensures outer (c.in_ok-push_all.ensures.pushed outer are)

@@ -6,7 +6,7 @@ use Rattle.c_typing.proofs.scope.Scope.declare.Goals as goal
 pub declare-requires-2 : goal.declare-requires-2
 declare-requires-2 c =
     let s = c.self.inside in
-    let some : 0 < length s.inner = let t = c.if-len-eq0.false in let e = c.len.ensures in omega (arith, e, t) in
+    let some : 0 < length s.inner = let t = c.if-len-eq0.false in let e = c.len.ensures.count in omega (arith, e, t) in
     record {
       some = some;
       fresh = ap (λ l. entry_of l.names c.args.name.now) (sym (innermost-inner s.file s.inner some))
@@ -16,7 +16,7 @@ declare-requires-2 c =
 pub returns-clause-declared : goal.returns-clause-declared
 returns-clause-declared c =
     let s = c.self.inside in
-    let some : 0 < length s.inner = let t = c.if-len-eq0.false in let e = c.len.ensures in omega (arith, e, t) in
+    let some : 0 < length s.inner = let t = c.if-len-eq0.false in let e = c.len.ensures.count in omega (arith, e, t) in
     on_ok _ _ c.declare-2.result (λ new.
     inner-changed (at_innermost (with_name c.args.name.now c.args.what)) s.file s.inner c.declare-2.new.self (map (λ k. k.items) s.defined.keys) s.members.items
     s.next_node s.globals s.cells c.args.self.now c.self.view_is

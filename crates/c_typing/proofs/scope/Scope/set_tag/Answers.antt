@@ -6,7 +6,7 @@ use Rattle.c_typing.proofs.scope.Scope.set_tag.Goals as goal
 pub returns-clause-declared : goal.returns-clause-declared
 returns-clause-declared c =
     let s = c.self.inside in
-    let some : 0 < length s.inner = let t = c.if-len-eq0.false in let e = c.len.ensures in omega (arith, e, t) in
+    let some : 0 < length s.inner = let t = c.if-len-eq0.false in let e = c.len.ensures.count in omega (arith, e, t) in
     on_ok _ _ c.set_tag-2.result (λ new.
     inner-changed (at_innermost (with_tag_set c.args.name.now c.args.what)) s.file s.inner c.set_tag-2.new.self (map
     (λ k. k.items) s.defined.keys) s.members.items

@@ -124,10 +124,6 @@ module _ {ep : MutBor Seen → MutBor Table → Bool → Bor Expr → Type 0} {e
     form_grows = λ scope after types later which at one r lt. h.form_grows scope after types later which at one r (omega (arith, lt, le));
   }
 
-  -- of one expression that is another
-  pub nests-of : (x y : tree.Expr) → Nests (expr_height y) ep eq sp sq fp fq → x ≡ y → Nests (expr_height x) ep eq sp sq fp fq
-  nests-of x y h same = subst (λ z. Nests (expr_height z) ep eq sp sq fp fq) (sym same) h
-
   -- of two or three parts
   pub nests-first : (a b : ℕ) → Nests (suc (max a b)) ep eq sp sq fp fq → Nests (suc a) ep eq sp sq fp fq
   nests-first a b h = nests-less (suc a) (suc (max a b)) (omega arith) h

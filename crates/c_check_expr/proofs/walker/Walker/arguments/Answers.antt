@@ -14,7 +14,7 @@ use Rattle.c_check_expr.proofs.walker.Walker.arguments.Goals as goal
 
 pub value-requires : goal.value-requires
 value-requires g c =
-    nests-seen arguments_height AndArgument expr_view expr_height arguments_count c.args.list.now c.loop-e.e-index c.e-item.result c.loop-e-test.true c.e-item.is NoArgument c.requires.nests
+    record { nests = nests-seen arguments_height AndArgument expr_view expr_height arguments_count c.args.list.now c.loop-e.e-index c.e-item.result c.loop-e-test.true c.e-item.is NoArgument c.requires.nests }
 
 pub returns-in_err-value-clause-answers : goal.returns-in_err-value-clause-answers
 returns-in_err-value-clause-answers g c =

@@ -4,4 +4,6 @@ use Rattle.c_check_expr.proofs.NestLaws.{nests-less}
 use Rattle.c_check_expr.proofs.walker.Walker.enumerator.Goals as goal
 
 pub value-requires : goal.value-requires
-value-requires g c = let inside = rw (c.in-Valued.is, view_enumerator-Valued) at c.requires.nests in nests-less _ _ (omega arith) inside
+value-requires g c =
+    let inside = rw (c.in-Valued.is, view_enumerator-Valued) at c.requires.nests in
+    record { nests = nests-less _ _ (omega arith) inside }

@@ -13,7 +13,7 @@ use Rattle.c_check_expr.proofs.walker.Walker.enumerators.Goals as goal
 
 pub enumerator-requires : goal.enumerator-requires
 enumerator-requires g c =
-    nests-each enumerators_height enumerator_view (λ x. enumerators_height (enumerator_view x NoEnumerator)) enumerators_count c.args.list.now c.loop-e.e-index c.e-item.result c.loop-e-test.true c.e-item.is NoEnumerator c.requires.nests
+    record { nests = nests-each enumerators_height enumerator_view (λ x. enumerators_height (enumerator_view x NoEnumerator)) enumerators_count c.args.list.now c.loop-e.e-index c.e-item.result c.loop-e-test.true c.e-item.is NoEnumerator c.requires.nests }
 
 pub returns-in_err-one-clause-answers : goal.returns-in_err-one-clause-answers
 returns-in_err-one-clause-answers g c =

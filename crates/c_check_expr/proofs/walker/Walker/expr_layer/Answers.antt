@@ -6,57 +6,56 @@ use Rattle.c_typing.specs.Judging.{known}
 use Rattle.c_typing.specs.OperandViews.{operand_view}
 use Rattle.c_typing.specs.Walks.{judge}
 use Rattle.c_check_expr.proofs.ExprLaws.{leaves_judged}
-use Rattle.c_check_expr.proofs.NestLaws.{nests-of}
 use Rattle.c_check_expr.proofs.OutcomeLaws.{answers-moved}
 use Rattle.c_check_expr.proofs.walker.Walker.expr_layer.Goals as goal
 
 pub paren_layer-requires : goal.paren_layer-requires
 paren_layer-requires g c =
-    nests-of _ (expr_view c.args.e.now) c.requires.nests (first_of (grind (arith, common_steps, view_expr-Paren), search (rules, view_expr-Paren)))
+    record { nests = rw c.get.ensures (rw (c.in-Paren.is, view_expr-Paren) at c.requires.nests) }
 
 pub index_layer-requires : goal.index_layer-requires
 index_layer-requires g c =
-    nests-of _ (expr_view c.args.e.now) c.requires.nests (first_of (grind (arith, common_steps, view_expr-Index), search (rules, view_expr-Index)))
+    record { nests = rw (c.get-in-Index.ensures, c.get-in-Index-2.ensures) (rw (c.in-Index.is, view_expr-Index) at c.requires.nests) }
 
 pub call_layer-requires : goal.call_layer-requires
 call_layer-requires g c =
-    nests-of _ (expr_view c.args.e.now) c.requires.nests (first_of (grind (arith, common_steps, view_expr-Call), search (rules, view_expr-Call)))
+    record { nests = rw (c.get-in-Call.ensures, c.as_slice-in-Call.ensures) (rw (c.in-Call.is, view_expr-Call) at c.requires.nests) }
 
 pub member_layer-requires : goal.member_layer-requires
 member_layer-requires g c =
-    nests-of _ (expr_view c.args.e.now) c.requires.nests (first_of (grind (arith, common_steps, view_expr-Member), search (rules, view_expr-Member)))
+    record { nests = rw c.get-in-Member.ensures (rw (c.in-Member.is, view_expr-Member) at c.requires.nests) }
 
 pub postfix_layer-requires : goal.postfix_layer-requires
 postfix_layer-requires g c =
-    nests-of _ (expr_view c.args.e.now) c.requires.nests (first_of (grind (arith, common_steps, view_expr-Postfix), search (rules, view_expr-Postfix)))
+    record { nests = rw c.get-in-Postfix.ensures (rw (c.in-Postfix.is, view_expr-Postfix) at c.requires.nests) }
 
 pub prefix_layer-requires : goal.prefix_layer-requires
 prefix_layer-requires g c =
-    nests-of _ (expr_view c.args.e.now) c.requires.nests (first_of (grind (arith, common_steps, view_expr-Prefix), search (rules, view_expr-Prefix)))
+    record { nests = rw c.get-in-Prefix.ensures (rw (c.in-Prefix.is, view_expr-Prefix) at c.requires.nests) }
 
 pub size_layer-requires : goal.size_layer-requires
 size_layer-requires g c =
-    nests-of _ (expr_view c.args.e.now) c.requires.nests (first_of (grind (arith, common_steps, view_expr-SizeOfType), search (rules, view_expr-SizeOfType)))
+    record { nests = rw c.get-in-SizeOfType.ensures (rw (c.in-SizeOfType.is, view_expr-SizeOfType) at c.requires.nests) }
 
 pub cast_layer-requires : goal.cast_layer-requires
 cast_layer-requires g c =
-    nests-of _ (expr_view c.args.e.now) c.requires.nests (first_of (grind (arith, common_steps, view_expr-Cast), search (rules, view_expr-Cast)))
+    record { nests = rw (c.get-in-Cast.ensures, c.get-in-Cast-2.ensures) (rw (c.in-Cast.is, view_expr-Cast) at c.requires.nests) }
 
 pub infix_layer-requires : goal.infix_layer-requires
 infix_layer-requires g c =
-    nests-of _ (expr_view c.args.e.now) c.requires.nests (first_of (grind (arith, common_steps, view_expr-Infix), search (rules, view_expr-Infix)))
+    record { nests = rw (c.get-in-Infix.ensures, c.get-in-Infix-2.ensures) (rw (c.in-Infix.is, view_expr-Infix) at c.requires.nests) }
 
 pub conditional_layer-requires : goal.conditional_layer-requires
 conditional_layer-requires g c =
-    nests-of _ (expr_view c.args.e.now) c.requires.nests (first_of (grind (arith, common_steps, view_expr-Conditional), search (rules, view_expr-Conditional)))
+    record { nests = rw (c.get-in-Conditional.ensures, c.get-in-Conditional-2.ensures, c.get-in-Conditional-3.ensures) (rw (c.in-Conditional.is, view_expr-Conditional) at c.requires.nests) }
 
 pub assignment_layer-requires : goal.assignment_layer-requires
 assignment_layer-requires g c =
-    nests-of _ (expr_view c.args.e.now) c.requires.nests (first_of (grind (arith, common_steps, view_expr-Assign), search (rules, view_expr-Assign)))
+    record { nests = rw (c.get-in-Assign.ensures, c.get-in-Assign-2.ensures) (rw (c.in-Assign.is, view_expr-Assign) at c.requires.nests) }
 
 pub comma_layer-requires : goal.comma_layer-requires
 comma_layer-requires g c =
-    nests-of _ (expr_view c.args.e.now) c.requires.nests (first_of (grind (arith, common_steps, view_expr-Comma), search (rules, view_expr-Comma)))
+    record { nests = rw (c.get-in-Comma.ensures, c.get-in-Comma-2.ensures) (rw (c.in-Comma.is, view_expr-Comma) at c.requires.nests) }
 
 pub returns-in-Name-clause-answers : goal.returns-in-Name-clause-answers
 returns-in-Name-clause-answers g c =

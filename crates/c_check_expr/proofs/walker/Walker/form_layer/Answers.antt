@@ -5,9 +5,11 @@ use Rattle.c_check_expr.proofs.PartsSeen.{declarator_seen}
 use Rattle.c_check_expr.proofs.walker.Walker.form_layer.Goals as goal
 
 pub core-requires : goal.core-requires
-core-requires g c = let seen = ap declarator_height (declarator_seen c.args.d.now) in nests-less _ _ (omega (arith, seen)) c.requires.nests
+core-requires g c =
+    let seen = ap declarator_height (declarator_seen c.args.d.now) in
+    record { nests = nests-less _ _ (omega (arith, seen)) c.requires.nests }
 
 pub parts-requires : goal.parts-requires
 parts-requires g c =
     let seen = ap declarator_height (declarator_seen c.args.d.now) in
-    rw c.as_slice-2.ensures (nests-less _ _ (omega (arith, seen)) c.requires.nests)
+    record { nests = rw c.as_slice-2.ensures (nests-less _ _ (omega (arith, seen)) c.requires.nests) }

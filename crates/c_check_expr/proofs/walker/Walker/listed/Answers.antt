@@ -17,7 +17,7 @@ use Rattle.c_check_expr.proofs.walker.Walker.listed.Goals as goal
 
 pub specifier-requires : goal.specifier-requires
 specifier-requires g c =
-    nests-seen specifiers_height AndSpecifier specifier_view specifier_height specifiers_count c.args.specifiers.now c.loop-one.one-index c.one-item.result c.loop-one-test.true c.one-item.is NoSpecifier c.requires.nests
+    record { nests = nests-seen specifiers_height AndSpecifier specifier_view specifier_height specifiers_count c.args.specifiers.now c.loop-one.one-index c.one-item.result c.loop-one-test.true c.one-item.is NoSpecifier c.requires.nests }
 
 pub returns-in_err-specifier-clause-answers : goal.returns-in_err-specifier-clause-answers
 returns-in_err-specifier-clause-answers g c =

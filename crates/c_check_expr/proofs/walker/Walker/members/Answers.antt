@@ -15,7 +15,7 @@ use Rattle.c_check_expr.proofs.walker.Walker.members.Goals as goal
 
 pub members_row-requires : goal.members_row-requires
 members_row-requires g c =
-    nests-each members_height members_view (λ x. members_height (members_view x NoMember)) members_count c.args.rows.now c.loop-row.row-index c.row-item.result c.loop-row-test.true c.row-item.is NoMember c.requires.nests
+    record { nests = nests-each members_height members_view (λ x. members_height (members_view x NoMember)) members_count c.args.rows.now c.loop-row.row-index c.row-item.result c.loop-row-test.true c.row-item.is NoMember c.requires.nests }
 
 pub returns-in_err-members_row-clause-answers : goal.returns-in_err-members_row-clause-answers
 returns-in_err-members_row-clause-answers g c = λ first.

@@ -6,9 +6,11 @@ use Rattle.c_check_expr.proofs.PartsSeen.{row_seen}
 use Rattle.c_check_expr.proofs.walker.Walker.members_row.Goals as goal
 
 pub specifiers-requires : goal.specifiers-requires
-specifiers-requires g c = let seen = ap members_height (row_seen c.args.row.now NoMember) in nests-less _ _ (omega (arith, seen)) c.requires.nests
+specifiers-requires g c =
+    let seen = ap members_height (row_seen c.args.row.now NoMember) in
+    record { nests = nests-less _ _ (omega (arith, seen)) c.requires.nests }
 
 pub row-requires : goal.row-requires
 row-requires g c =
     let seen = ap members_height (row_seen c.args.row.now NoMember) in
-    rw c.as_slice.ensures (nests-less _ _ (omega (arith, seen)) c.requires.nests)
+    record { nests = rw c.as_slice.ensures (nests-less _ _ (omega (arith, seen)) c.requires.nests) }

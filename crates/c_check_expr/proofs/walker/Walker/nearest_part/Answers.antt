@@ -12,7 +12,7 @@ use Rattle.c_check_expr.proofs.walker.Walker.nearest_part.Goals as goal
 pub function_left-requires : goal.function_left-requires
 function_left-requires g c =
     let inside = rw (c.in-Function.is, view_part-Function) at c.requires.nests in
-    rw c.as_slice.ensures (nests-less _ _ (omega arith) inside)
+    record { nests = rw c.as_slice.ensures (nests-less _ _ (omega arith) inside) }
 
 pub returns-in-Function-clause-left : goal.returns-in-Function-clause-left
 returns-in-Function-clause-left g c =

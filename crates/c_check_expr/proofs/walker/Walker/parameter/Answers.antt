@@ -13,10 +13,14 @@ use Rattle.c_check_expr.proofs.SpecifiedLaws.{parameter_goes}
 use Rattle.c_check_expr.proofs.walker.Walker.parameter.Goals as goal
 
 pub specifiers-requires : goal.specifiers-requires
-specifiers-requires g c = let seen = ap parameters_height (parameter_seen c.args.one.now NoParameter) in nests-less _ _ (omega (arith, seen)) c.requires.nests
+specifiers-requires g c =
+    let seen = ap parameters_height (parameter_seen c.args.one.now NoParameter) in
+    record { nests = nests-less _ _ (omega (arith, seen)) c.requires.nests }
 
 pub declared-requires : goal.declared-requires
-declared-requires g c = let seen = ap parameters_height (parameter_seen c.args.one.now NoParameter) in nests-less _ _ (omega (arith, seen)) c.requires.nests
+declared-requires g c =
+    let seen = ap parameters_height (parameter_seen c.args.one.now NoParameter) in
+    record { nests = nests-less _ _ (omega (arith, seen)) c.requires.nests }
 
 pub returns-clause-answers : goal.returns-clause-answers
 returns-clause-answers g c = λ start before done judged.

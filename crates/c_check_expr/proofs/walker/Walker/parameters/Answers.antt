@@ -15,7 +15,7 @@ use Rattle.c_check_expr.proofs.walker.Walker.parameters.Goals as goal
 
 pub parameter-requires : goal.parameter-requires
 parameter-requires g c =
-    nests-each parameters_height parameter_view (λ x. parameters_height (parameter_view x NoParameter)) parameters_count c.args.list.now c.loop-one.one-index c.one-item.result c.loop-one-test.true c.one-item.is NoParameter c.requires.nests
+    record { nests = nests-each parameters_height parameter_view (λ x. parameters_height (parameter_view x NoParameter)) parameters_count c.args.list.now c.loop-one.one-index c.one-item.result c.loop-one-test.true c.one-item.is NoParameter c.requires.nests }
 
 pub returns-in_err-parameter-clause-answers : goal.returns-in_err-parameter-clause-answers
 returns-in_err-parameter-clause-answers g c =

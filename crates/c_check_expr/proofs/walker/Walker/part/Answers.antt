@@ -11,7 +11,7 @@ use Rattle.c_check_expr.proofs.walker.Walker.part.Goals as goal
 pub function_part-requires : goal.function_part-requires
 function_part-requires g c =
     let inside = rw (c.in-Function.is, view_part-Function) at c.requires.nests in
-    rw c.as_slice-in-Function.ensures (nests-less _ _ (omega arith) inside)
+    record { nests = rw c.as_slice-in-Function.ensures (nests-less _ _ (omega arith) inside) }
 
 pub returns-in-Function-clause-answers : goal.returns-in-Function-clause-answers
 returns-in-Function-clause-answers g c = λ start before done judged.

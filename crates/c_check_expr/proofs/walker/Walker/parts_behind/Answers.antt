@@ -15,7 +15,7 @@ use Rattle.c_check_expr.proofs.walker.Walker.parts_behind.Goals as goal
 
 pub part-requires : goal.part-requires
 part-requires g c =
-    nests-each parts_height part_view (λ x. parts_height (part_view x NoPart)) parts_count c.args.rest.now c.loop-part.part-index c.part-item.result c.loop-part-test.true c.part-item.is NoPart c.requires.nests
+    record { nests = nests-each parts_height part_view (λ x. parts_height (part_view x NoPart)) parts_count c.args.rest.now c.loop-part.part-index c.part-item.result c.loop-part-test.true c.part-item.is NoPart c.requires.nests }
 
 pub returns-in_err-part-clause-answers : goal.returns-in_err-part-clause-answers
 returns-in_err-part-clause-answers g c = λ start before judged.

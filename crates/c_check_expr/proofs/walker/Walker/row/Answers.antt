@@ -14,7 +14,7 @@ use Rattle.c_check_expr.proofs.walker.Walker.row.Goals as goal
 
 pub member-requires : goal.member-requires
 member-requires g c =
-    nests-seen member_declarators_height AndDeclarator declarator_view declarator_height row_counts c.args.list.now c.loop-d.d-index c.d-item.result c.loop-d-test.true c.d-item.is NoDeclarator c.requires.nests
+    record { nests = nests-seen member_declarators_height AndDeclarator declarator_view declarator_height row_counts c.args.list.now c.loop-d.d-index c.d-item.result c.loop-d-test.true c.d-item.is NoDeclarator c.requires.nests }
 
 pub loop-d-init : goal.loop-d-init
 loop-d-init g c = (first_of (grind (arith, common_steps, none_judged), search (rules, none_judged)), first_of (grind (arith, common_steps), search rules), search rules)

@@ -10,10 +10,11 @@ use Rattle.c_tree.proofs.ViewLaws.{view_specifier-Aggregate, view_specifier-Enum
 use Rattle.c_check_expr.proofs.walker.Walker.specifier.Goals as goal
 
 pub aggregate-requires : goal.aggregate-requires
-aggregate-requires g c = rw c.as_slice.ensures (rw (c.in-Aggregate.is, view_specifier-Aggregate) at c.requires.nests)
+aggregate-requires g c = record { nests = rw c.as_slice.ensures (rw (c.in-Aggregate.is, view_specifier-Aggregate) at c.requires.nests) }
 
 pub enumeration-requires : goal.enumeration-requires
-enumeration-requires g c = rw c.as_slice-in-Enumeration.ensures (rw (c.in-Enumeration.is, view_specifier-Enumeration) at c.requires.nests)
+enumeration-requires g c =
+    record { nests = rw c.as_slice-in-Enumeration.ensures (rw (c.in-Enumeration.is, view_specifier-Enumeration) at c.requires.nests) }
 
 pub returns-in-Aggregate-clause-answers : goal.returns-in-Aggregate-clause-answers
 returns-in-Aggregate-clause-answers g c =

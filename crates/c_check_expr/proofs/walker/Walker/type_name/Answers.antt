@@ -5,7 +5,11 @@ use Rattle.c_check_expr.proofs.PartsSeen.{type_name_seen}
 use Rattle.c_check_expr.proofs.walker.Walker.type_name.Goals as goal
 
 pub specifiers-requires : goal.specifiers-requires
-specifiers-requires g c = let seen = ap type_name_height (type_name_seen c.args.name.now) in nests-less _ _ (omega (arith, seen)) c.requires.nests
+specifiers-requires g c =
+    let seen = ap type_name_height (type_name_seen c.args.name.now) in
+    record { nests = nests-less _ _ (omega (arith, seen)) c.requires.nests }
 
 pub declared-requires : goal.declared-requires
-declared-requires g c = let seen = ap type_name_height (type_name_seen c.args.name.now) in nests-less _ _ (omega (arith, seen)) c.requires.nests
+declared-requires g c =
+    let seen = ap type_name_height (type_name_seen c.args.name.now) in
+    record { nests = nests-less _ _ (omega (arith, seen)) c.requires.nests }

@@ -124,6 +124,10 @@ module _ {ep : MutBor Seen → MutBor Table → Bool → Bor Expr → Type 0} {e
     form_grows = λ scope after types later which at one r lt. h.form_grows scope after types later which at one r (omega (arith, lt, le));
   }
 
+  -- the same, where the height is seen by what may be called
+  pub nests-within : (m n : ℕ) → Nests n ep eq sp sq fp fq → m ≤ n → Nests m ep eq sp sq fp fq
+  nests-within m n h le = nests-less m n le h
+
   -- of two or three parts
   pub nests-first : (a b : ℕ) → Nests (suc (max a b)) ep eq sp sq fp fq → Nests (suc a) ep eq sp sq fp fq
   nests-first a b h = nests-less (suc a) (suc (max a b)) (omega arith) h

@@ -6,13 +6,13 @@ use Rattle.c_tree.specs.Views.{added, part_view, parameter_view}
 use Rattle.c_typing.specs.Judging.{known}
 use Rattle.c_unit_typing.specs.ParameterScopes.{level_given, parameters_written, scope_of_list}
 use Rattle.c_check_expr.proofs.StayLaws.{no_parts}
-use Rattle.c_check_expr.proofs.NestLaws.{nests-less}
+use Rattle.c_check_expr.proofs.NestLaws.{nests-within}
 use Rattle.c_check_expr.proofs.walker.Walker.nearest_part.Goals as goal
 
 pub function_left-requires : goal.function_left-requires
 function_left-requires g c =
     let inside = rw (c.in-Function.is, view_part-Function) at c.requires.nests in
-    record { nests = rw c.as_slice.ensures (nests-less _ _ (omega arith) inside) }
+    record { nests = rw c.as_slice.ensures (nests-within _ _ inside (omega arith)) }
 
 pub returns-in-Function-clause-left : goal.returns-in-Function-clause-left
 returns-in-Function-clause-left g c =

@@ -6,7 +6,7 @@ use Rattle.c_tree.specs.Views.{parameter_view}
 use Rattle.c_typing.specs.Judging.{known}
 use Rattle.c_typing.specs.Walks.{judge_parameters}
 use Rattle.c_check_declarators.specs.DerivedViews.{derived_view}
-use Rattle.c_check_expr.proofs.NestLaws.{nests-less}
+use Rattle.c_check_expr.proofs.NestLaws.{nests-within}
 use Rattle.c_check_expr.proofs.OutcomeLaws.{answers-moved}
 use Rattle.c_check_expr.proofs.PartsSeen.{parameter_seen}
 use Rattle.c_check_expr.proofs.SpecifiedLaws.{parameter_goes}
@@ -15,12 +15,12 @@ use Rattle.c_check_expr.proofs.walker.Walker.parameter.Goals as goal
 pub specifiers-requires : goal.specifiers-requires
 specifiers-requires g c =
     let seen = ap parameters_height (parameter_seen c.args.one.now NoParameter) in
-    record { nests = nests-less _ _ (omega (arith, seen)) c.requires.nests }
+    record { nests = nests-within _ _ c.requires.nests (omega (arith, seen)) }
 
 pub declared-requires : goal.declared-requires
 declared-requires g c =
     let seen = ap parameters_height (parameter_seen c.args.one.now NoParameter) in
-    record { nests = nests-less _ _ (omega (arith, seen)) c.requires.nests }
+    record { nests = nests-within _ _ c.requires.nests (omega (arith, seen)) }
 
 pub returns-clause-answers : goal.returns-clause-answers
 returns-clause-answers g c = λ start before done judged.

@@ -5,13 +5,13 @@ use Rattle.c_tree.specs.TypedViews.{typed_part_view}
 use Rattle.c_tree.specs.Views.{added, part_view, parameter_view}
 use Rattle.c_typing.specs.Judging.{Answers, known}
 use Rattle.c_typing.specs.Walks.{judge_parts}
-use Rattle.c_check_expr.proofs.NestLaws.{nests-less}
+use Rattle.c_check_expr.proofs.NestLaws.{nests-within}
 use Rattle.c_check_expr.proofs.walker.Walker.part.Goals as goal
 
 pub function_part-requires : goal.function_part-requires
 function_part-requires g c =
     let inside = rw (c.in-Function.is, view_part-Function) at c.requires.nests in
-    record { nests = rw c.as_slice-in-Function.ensures (nests-less _ _ (omega arith) inside) }
+    record { nests = rw c.as_slice-in-Function.ensures (nests-within _ _ inside (omega arith)) }
 
 pub returns-in-Function-clause-answers : goal.returns-in-Function-clause-answers
 returns-in-Function-clause-answers g c = λ start before done judged.

@@ -1,7 +1,7 @@
 //! Statements (C99 6.8).
 #![tactic(auto)]
 
-ghost use Rattle.std.specs.Prelude.{◌≡◌, IfOk, Some, None, option_map};
+ghost use Rattle.std.specs.Prelude.{◌≡◌, IfOk, Some, None, false, option_map};
 ghost use Rattle.c_tree.specs.Tree as tree;
 ghost use Rattle.c_tree.specs.TypedTree.{TypedBlockItems};
 ghost use Rattle.c_tree.specs.Views.{expr_view};

@@ -165,5 +165,3 @@ module _ {ep : MutBor Seen → MutBor Table → Bool → Bor Expr → Type 0} {e
       nests-less _ _ (omega (arith, le))
 
 pub ruleset nests = (nests-first, nests-second, nests-middle, nests-last)
-
-pub ruleset nests_parts = (nests-nearest, nests-behind)

@@ -125,7 +125,7 @@ impl<
     }
 
     /// Parts, with what the nearest to the name leaves.
-    #[tactic(auto, using(c_tree::proofs::PushLaws::pushes, crate::proofs::StayLaws::none_judged, crate::proofs::LeavingLaws::leaving, crate::proofs::NestLaws::nests_parts))]
+    #[tactic(auto, using(c_tree::proofs::PushLaws::pushes, crate::proofs::StayLaws::none_judged, crate::proofs::LeavingLaws::leaving))]
     fn nearest_parts(
         &self,
         scope: &mut Scope,

@@ -13,6 +13,14 @@ returns-in-Err-clause-unchanged c =
     ∙ take-append_seam items (c.args.level ∷ [])
     ∙ c.self.view_is
 
+pub invariant_of-self : goal.invariant_of-self
+invariant_of-self c =
+    let s = c.self.inside in
+    let same = c.in_err-push.ensures.items in (
+      subst (λ ls. AreStacksOf (map (λ l. l.names) ls) s.names) (sym same) c.self.invariant.0,
+      subst (λ ls. AreStacksOf (map (λ l. l.tags) ls) s.tags) (sym same) c.self.invariant.1,
+    )
+
 pub invariant_of-self-in-Ok : goal.invariant_of-self-in-Ok
 invariant_of-self-in-Ok c =
     let s = c.self.inside in

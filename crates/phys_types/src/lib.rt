@@ -11,8 +11,10 @@ mod firsts;
 mod following;
 mod found;
 mod held;
+mod keeping;
 mod known;
 mod laws;
+mod lending;
 mod makeup;
 mod mixed_unions;
 mod numbered;
@@ -37,6 +39,7 @@ pub use laws::{
     facts_pass_to_what_is_covered, repetitions_of_types_that_tile_agree,
     types_that_tile_begin_with_one_another,
 };
+pub use lending::Lent;
 pub use phys::Phys;
 pub use signature::mixed;
 pub use spot::{Item, Layout, Spot};

@@ -71,7 +71,7 @@ repeat_times (suc n) c xs =
     ap (λ (ys : List Cell). repeat c xs ++ ys) (repeat_times n c xs) ∙ repeat_sum c (n * c) xs ∙ ap (λ (m : ℕ). repeat m xs) (next n c)
   where
     next : (n c : ℕ) → c + n * c ≡ suc n * c
-    next n c = omega arith
+    next n c = grind arith
 
 module _ (size : TypeId → ℕ) where
   copied_cells : (n k : ℕ) (ss : List Spot) → AreSpots size 0 ss k → cells_from 0 (copies n k 0 ss) (n * k) ≡ repeat n (cells_from 0 ss k)
@@ -80,9 +80,12 @@ module _ (size : TypeId → ℕ) where
   copied_spots : (n k : ℕ) (ss : List Spot) → AreSpots size 0 ss k → AreSpots size 0 (copies n k 0 ss) (n * k)
   copied_spots n k ss h = subst (AreSpots size 0 (copies n k 0 ss)) (zero_plus (n * k)) (spots_copied size n k 0 ss h)
 
+step : (c n : ℕ) → suc c * n ≡ n + c * n
+step c n = grind arith
+
 no_less : (c n : ℕ) → 0 < c → n ≤ c * n
 no_less zero n h = absurd (omega arith)
-no_less (suc c) n h = omega arith
+no_less (suc c) n h = let e = step c n in omega arith
 
 -- ---- what is kept of a type
 
@@ -90,6 +93,9 @@ module _ (table : Table) (E : Relation) (t : TypeId) where
   -- all of it is the layout
   pub kept_spots : (k : Repeated) → IsKeptOf table E t k → AreSpots (size_of table) 0 (all_spots k) (all_size k)
   kept_spots k h = copied_spots (size_of table) k.count k.part.size k.part.spots.items h.spots
+
+  pub kept_cells : (k : Repeated) → IsKeptOf table E t k → repeat k.count (cells_from 0 k.part.spots.items k.part.size) ≡ cells_at table E t
+  kept_cells k h = sym (copied_cells (size_of table) k.count k.part.size k.part.spots.items h.spots) ∙ h.cells
 
   pub kept_size : (k : Repeated) → IsKeptOf table E t k → all_size k ≡ length (cells_at table E t)
   kept_size k h = sym (length_all (size_of table) (all_spots k) (all_size k) (kept_spots k h)) ∙ ap length h.cells

@@ -16,9 +16,9 @@ const FEW_SPOTS: usize = 256;
 
 /// As many copies of a layout, one behind another.
 #[derive(Debug, Drop)]
-pub(crate) struct Repeated {
-    pub(crate) part: Layout,
-    pub(crate) count: u64,
+pub struct Repeated {
+    pub part: Layout,
+    pub count: u64,
 }
 
 /// The layout of copies, one behind another.

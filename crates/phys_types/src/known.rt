@@ -16,7 +16,7 @@ ghost use Rattle.phys_types.specs.Found.{Gains};
 ghost use Rattle.phys_types.specs.Lending.{lent_layout};
 ghost use Rattle.phys_types.specs.Pairs.{AreCorrespondingNodes, TellsEqualKinds};
 ghost use Rattle.phys_types.specs.Rounds.{TellEqual};
-ghost use Rattle.phys_types.specs.Shown.{IsLayoutOf};
+ghost use Rattle.phys_types.specs.Shown.{IsLayoutOf, IsKeptOf};
 ghost use Rattle.phys_types.specs.Standing.{AreEqualTypes, CorrespondInSome};
 
 use crate::alike::{add_alike, add_spots};
@@ -89,12 +89,20 @@ impl<'a> Known<'a> {
         lend_type(self.alloc, &self.places, &self.layouts, t)
     }
 
+    /// The layout of a type as a part and how often it stands. Takes no memory.
+    pub fn repeated(&self, t: TypeId) -> &Repeated
+        requires { IsType self.now t }
+        ensures { IsKeptOf self.now (physically_equal self.now) t result.now }
+    {
+        kept(&self.places, &self.layouts, t)
+    }
+
     /// How many cells a type has. Takes no memory.
     pub fn cell_count(&self, t: TypeId) -> u64
         requires { IsType self.now t }
         ensures { result ≡ length (cells_of self.now t) }
     {
-        let own = kept(&self.places, &self.layouts, t);
+        let own = self.repeated(t);
         own.count * own.part.size
     }
 
@@ -103,7 +111,7 @@ impl<'a> Known<'a> {
         requires { IsType self.now t }
         ensures { result ≡ holds_pointer self.now t }
     {
-        kept(&self.places, &self.layouts, t).part.holds
+        self.repeated(t).part.holds
     }
 
     /// Whether two types are physically equal.

@@ -33,6 +33,7 @@ pub use c_types::FlowClass;
 pub use comparing::number_of;
 pub use firsts::firsts_of;
 pub use found::Found;
+pub use keeping::Repeated;
 pub use known::Known;
 pub use laws::{
     coverage_passes_along_a_class, facts_pass_between_types_of_one_class,

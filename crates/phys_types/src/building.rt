@@ -286,7 +286,8 @@ pub(crate) fn kept_of(
     match types.shape(t) {
         TypeShape::Array(element, count) => {
             let part = kept(places, built, *element);
-            kept_times(alloc, &part.part, *count * part.count)
+            let times = *count * part.count;
+            kept_times(alloc, &part.part, times)
         }
         _ => {
             let part = layout_of(alloc, types, numbers, places, built, t)?;

@@ -107,7 +107,16 @@ pub(crate) fn settled_pairs(
     let mut found = Found::new(alloc);
     let x = lend_type(alloc, places, layouts, from)?;
     let y = lend_type(alloc, places, layouts, to)?;
-    add_top(alloc, types, &mut found, class, from, x.layout(), to, y.layout())?;
+    add_top(
+        alloc,
+        types,
+        &mut found,
+        class,
+        from,
+        x.layout(),
+        to,
+        y.layout(),
+    )?;
     follow(alloc, types, places, layouts, &mut found)?;
     found.into_nodes(alloc)
 }

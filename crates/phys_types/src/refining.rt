@@ -35,16 +35,16 @@ const MOST_TURNS: usize = 4_294_967_296;
 fn front_form(
     alloc: Global,
     types: &Types,
-    kept: &Repeated,
+    own: &Repeated,
     limit: usize,
     t: TypeId,
 ) -> Result<usize, NoMemory>
     requires formed { IsWellFormed types.now }
     requires typed { IsType types.now t }
-    requires low { IsLowKept kept.now }
-    ensures { IfOk result (λ form. form ≡ front_form types.now limit t kept.now) }
+    requires low { IsLowKept own.now }
+    ensures { IfOk result (λ form. form ≡ front_form types.now limit t own.now) }
 {
-    let lent = lend_front(alloc, kept, limit)?;
+    let lent = lend_front(alloc, own, limit)?;
     let front = lent.layout();
     Ok(form_of(types, t, front.size, &front.spots))
 }
@@ -53,16 +53,16 @@ fn front_form(
 fn front_targets(
     alloc: Global,
     types: &Types,
-    kept: &Repeated,
+    own: &Repeated,
     limit: usize,
     t: TypeId,
 ) -> Result<Vec<TypeId>, NoMemory>
     requires formed { IsWellFormed types.now }
     requires typed { IsType types.now t }
-    requires low { IsLowKept kept.now }
-    ensures { IfOk result (λ targets. targets.items ≡ front_targets types.now limit t kept.now) }
+    requires low { IsLowKept own.now }
+    ensures { IfOk result (λ targets. targets.items ≡ front_targets types.now limit t own.now) }
 {
-    let lent = lend_front(alloc, kept, limit)?;
+    let lent = lend_front(alloc, own, limit)?;
     targets_of(alloc, types, t, &lent.layout().spots)
 }
 

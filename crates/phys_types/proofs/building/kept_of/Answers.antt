@@ -23,8 +23,8 @@ kept_times-requires-clause-small c =
     element_kept table E c.args.places.now c.args.built.now c.args.t c.in-Array.element c.in-Array.count c.kept-part.result.now e c.requires.shown c.kept-part.ensures in
     array_small table c.requires.formed E c.args.t c.in-Array.element c.in-Array.count e c.kept-part.result.now h
 
-pub overflow_mul : goal.overflow_mul
-overflow_mul c =
+pub overflow_mul-times : goal.overflow_mul-times
+overflow_mul-times c =
     let table = c.args.types.now in
     let E = same_number (number_in c.args.numbers.now) in
     let e = sym c.shape.ensures ∙ c.in-Array.is in

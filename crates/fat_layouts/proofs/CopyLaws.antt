@@ -1,5 +1,5 @@
 -- The widths of cells that are copies of a part, one behind another.
-use Rattle.std.proofs.Common.{◌≡◌, ℕ, zero, suc, ◌+◌, ◌*◌, ◌/◌, ◌%◌, ◌<◌, ◌≤◌, ◌⊎◌, inl, inr, List, [], ◌∷◌, ◌++◌, length, slice_get, Some, refl, ap, sym, subst, ◌∙◌, arith}
+use Rattle.std.proofs.Common.{◌≡◌, ℕ, zero, suc, ◌+◌, ◌*◌, ◌/◌, ◌%◌, ◌<◌, ◌≤◌, ⊥, ◌⊎◌, inl, inr, List, [], ◌∷◌, ◌++◌, length, slice_get, Some, refl, ap, sym, subst, ◌∙◌, arith}
 use Rattle.std.specs.List.{repeat}
 use Rattle.std.proofs.Math.Nat.{mod-lt, mul-le-mul_left, mul-le-mul_right}
 use Rattle.std.proofs.lemmas.Nat.{div-add-mod'}
@@ -75,29 +75,44 @@ module _ (kind : NodeId → Kind) (P : List Cell) where
       ap (slice_get (P ++ repeat n P)) (further q (length P) r) ∙ get_back P (repeat n P) (q * length P + r) ∙ copy_at n q r (omega arith) b
 
 -- where an offset lies
-split : (n k o : ℕ) → 0 < k → o ≤ n * k → IsIn n (o / k) (o % k)
-split n k o some l = of (cases (o / k) n)
+split : (n k q r : ℕ) → 0 < k → q * k + r ≤ n * k → IsIn n q r
+split n k q r some l = of (cases q n)
   where
     cases : (a b : ℕ) → (a < b) ⊎ (b ≤ a)
     cases a b = grind arith
 
-    of : ((o / k) < n) ⊎ (n ≤ (o / k)) → IsIn n (o / k) (o % k)
+    step : (n k : ℕ) → suc n * k ≡ n * k + k
+    step n k = grind arith
+
+    -- more whole copies than there are
+    past : n < q → ⊥
+    past b = let c : suc n ≤ q = omega arith in let m = mul-le-mul_right k c in let s = step n k in omega arith
+
+    same : n ≤ q → (n < q) ⊎ (q ≤ n) → q ≡ n
+    same a (inl b) = absurd (past b)
+    same a (inr b) = omega arith
+
+    of : (q < n) ⊎ (n ≤ q) → IsIn n q r
     of (inl a) = inl a
-    of (inr a) =
-        let e = div-add-mod' o k in
-        let m = mul-le-mul_right k a in
-        inr (same (cases n (o / k)), omega arith)
-      where
-        same : (n < (o / k)) ⊎ ((o / k) ≤ n) → (o / k) ≡ n
-        same (inr b) = omega arith
-        same (inl b) =
-            let e = div-add-mod' o k in
-            let c : suc n ≤ (o / k) = omega arith in
-            let m = mul-le-mul_right k c in
-            let s = step n k in absurd (omega arith)
-          where
-            step : (n k : ℕ) → suc n * k ≡ n * k + k
-            step n k = grind arith
+    of (inr a) = let m = mul-le-mul_right k a in inr (same a (cases n q), omega arith)
+
+at_most : (a b c : ℕ) → a < b → c ≡ b → a ≤ c
+at_most a b c h e = omega arith
+
+under : (a b c : ℕ) → a < b → c ≡ b → a < c
+under a b c h e = omega arith
+
+nothing_left : (b r : ℕ) → b ≤ 3 * r → r ≡ 0 → b ≡ 0
+nothing_left b r h e = omega arith
+
+small_copies : (q k r o a b : ℕ) → q * k + r ≡ o → a ≤ 3 * k → b ≤ 3 * r → q * a + b ≤ 3 * o
+small_copies q k r o a b e s t = let m = mul-le-mul_left q s in let f = three q k in omega arith
+  where
+    three : (q k : ℕ) → q * (3 * k) ≡ 3 * (q * k)
+    three q k = grind arith
+
+three_bytes : (a o n : ℕ) → a ≤ 3 * o → o ≤ n → n ≤ 1048576 → a ≤ 3145728
+three_bytes a o n h k l = omega arith
 
 module _ (table : Table) (w : IsWellFormed table) (kinds : List Kind) (t : TypeId) (x : CuredLayout) (h : IsCuredLayout table kinds t x) (complete : IsComplete table t) where
   abbrev P : List Cell
@@ -126,27 +141,27 @@ module _ (table : Table) (w : IsWellFormed table) (kinds : List Kind) (t : TypeI
       let p = slice_get_past P x.size (omega arith) in
       record { whole = λ n u i q. absurd (cc (p, q)) }
 
+  -- the rest is less than a part
+  pub rest_within : (o : ℕ) → o % x.size ≤ x.size
+  rest_within o = at_most (o % x.size) x.size x.size (mod-lt o part_some) refl
+
   module _ (o a b : ℕ) (l : o ≤ size_of table t) (small : a ≤ 3 * x.size) (rest : b ≤ 3 * (o % x.size)) where
     pub copies_small : (o / x.size) * a + b ≤ 3145728
     copies_small =
-        let m = mul-le-mul_left (o / x.size) small in
-        let e = div-add-mod' o x.size in
-        let f = three (o / x.size) x.size in
-        let s = (w.sized t complete).most in omega arith
-      where
-        three : (q k : ℕ) → q * (3 * k) ≡ 3 * (q * k)
-        three q k = grind arith
+        three_bytes ((o / x.size) * a + b) o (size_of table t) (small_copies (o / x.size) x.size (o % x.size) o a b (div-add-mod' o x.size) small rest) l (w.sized t complete).most
 
     pub copies_is : IsBetweenPointers (cells_of table t) o → a ≡ before (kind_at kinds) (cells_from 0 h.spots x.size) x.size
         → (IsBetweenPointers (cells_from 0 h.spots x.size) (o % x.size) → b ≡ before (kind_at kinds) (cells_from 0 h.spots x.size) (o % x.size))
         → (o / x.size) * a + b ≡ before (kind_at kinds) (cells_of table t) o
     copies_is between whole part =
-        (λ i. (o / x.size) * (whole ∙ ap (before (kind_at kinds) P) (sym part_length)) i + (rest_is i))
-        ∙ sym (copies_before (kind_at kinds) P h.count (o / x.size) (o % x.size) place (let m = mod-lt o part_some in let e = part_length in omega arith))
+        (λ i. (o / x.size) * (whole ∙ ap (before (kind_at kinds) P) (sym part_length)) i + rest_is i)
+        ∙ sym (copies_before (kind_at kinds) P h.count (o / x.size) (o % x.size) place (at_most (o % x.size) x.size (length P) (mod-lt o part_some) part_length))
         ∙ (λ i. before (kind_at kinds) (h.cells i) (here i))
       where
         place : IsIn h.count (o / x.size) (o % x.size)
-        place = split h.count x.size o part_some (let e = all_length in omega arith)
+        place =
+            split h.count x.size (o / x.size) (o % x.size) part_some
+            (subst (λ (z : ℕ). z ≤ h.count * x.size) (sym (div-add-mod' o x.size)) (subst (λ (z : ℕ). o ≤ z) (sym all_length) l))
 
         here : (o / x.size) * length P + o % x.size ≡ o
         here = ap (λ (k : ℕ). (o / x.size) * k + o % x.size) part_length ∙ div-add-mod' o x.size
@@ -158,8 +173,6 @@ module _ (table : Table) (w : IsWellFormed table) (kinds : List Kind) (t : TypeI
             of (inl q) = part (record {
               whole = λ n u i e. between.whole n u i
                   (ap (slice_get (cells_of table t)) (sym here) ∙ ap (λ (cs : List Cell). slice_get cs ((o / x.size) * length P + o % x.size)) (sym h.cells)
-                  ∙ copy_at (kind_at kinds) P h.count (o / x.size) (o % x.size) q (let m = mod-lt o part_some in let f = part_length in omega arith) ∙ e);
+                  ∙ copy_at (kind_at kinds) P h.count (o / x.size) (o % x.size) q (under (o % x.size) x.size (length P) (mod-lt o part_some) part_length) ∙ e);
             })
-            of (inr (q, z)) =
-                let s : b ≡ 0 = omega arith in
-                s ∙ sym (ap (before (kind_at kinds) P) z)
+            of (inr (q, z)) = nothing_left b (o % x.size) rest z ∙ sym (ap (before (kind_at kinds) P) z)

@@ -11,8 +11,8 @@ use Rattle.kind_constraints.proofs.Belows.{type_eq, same_id, below_told, pointee
 use Rattle.kind_constraints.proofs.Kept.{looked_up, inserted}
 use Rattle.kind_constraints.proofs.below.kept_below.Goals as goal
 
-pub has_below-below-requires-clause-pointees : goal.has_below-below-requires-clause-pointees
-has_below-below-requires-clause-pointees c = λ k d l.
+pub has_below-requires-clause-pointees : goal.has_below-requires-clause-pointees
+has_below-requires-clause-pointees c = λ k d l.
     let a = c.requires.asked in
     subst (λ (table : List Entry). IsType table (get_or c.deref.result.now k d)) (sym a.same)
     (pointees_typed c.args.asked.now.types.now a.formed c.args.asked.now.sites.now c.args.asked.now.firsts.items a.equal a.typed c.args.asked.now.pointees.items a.pointed

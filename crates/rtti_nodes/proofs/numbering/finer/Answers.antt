@@ -15,15 +15,15 @@ types-init c = none_finer c.args.types.now (kind_at c.args.kinds.now) c.args.num
 
 pub label_of-label-requires-clause-spots : goal.label_of-label-requires-clause-spots
 label_of-label-requires-clause-spots c =
-    layout_nodes c.args.types.now c.count-count.ensures.formed (length c.args.kinds.now) c.requires.nodes (record { 0 = c.types.t }) c.layout-label.result.now
-    (subst (λ (x : Layout). IsLayoutOf c.args.types.now (physically_equal c.args.types.now) (record { 0 = c.types.t }) x) (sym c.layout-label.ensures)
+    layout_nodes c.args.types.now c.count-count.ensures.formed (length c.args.kinds.now) c.requires.nodes (record { 0 = c.types.t }) c.layout-2.result.now
+    (subst (λ (x : Layout). IsLayoutOf c.args.types.now (physically_equal c.args.types.now) (record { 0 = c.types.t }) x) (sym c.layout-2.ensures)
     (subst (λ (table : List Entry). IsLayoutOf table (physically_equal table) (record { 0 = c.types.t }) (lent_layout c.in_ok-lent.lent)) c.requires.table c.in_ok-lent.ensures))
 
 pub types-preserved : goal.types-preserved
 types-preserved c =
     finer_more c.args.types.now c.count-count.ensures.formed (kind_at c.args.kinds.now) c.args.numbers.now c.types.finer.items c.push.new.self.items c.types.t c.mixed.result
-    c.layout-label.result.now c.types.invariant
-    (subst (λ (x : Layout). IsLayoutOf c.args.types.now (physically_equal c.args.types.now) (record { 0 = c.types.t }) x) (sym c.layout-label.ensures)
+    c.layout-2.result.now c.types.invariant
+    (subst (λ (x : Layout). IsLayoutOf c.args.types.now (physically_equal c.args.types.now) (record { 0 = c.types.t }) x) (sym c.layout-2.ensures)
     (subst (λ (table : List Entry). IsLayoutOf table (physically_equal table) (record { 0 = c.types.t }) (lent_layout c.in_ok-lent.lent)) c.requires.table c.in_ok-lent.ensures))
     (c.mixed.ensures ∙ (λ i. mixed (c.number_of.ensures i) (c.label_of-label.ensures i))) c.in_ok-push.ensures.items
 

@@ -1,8 +1,7 @@
 use Rattle.std.proofs.Common.{arith}
-use Rattle.std.proofs.Math.Nat.{mod-lt}
 use Rattle.cc_base.specs.Kinds.{kind_at}
 use Rattle.fat_layouts.proofs.LayoutLaws.{the_layout, kept_formed}
-use Rattle.fat_layouts.proofs.CopyLaws.{part_some, part_end, copies_small, copies_is}
+use Rattle.fat_layouts.proofs.CopyLaws.{part_some, part_end, rest_within, copies_small, copies_is}
 use Rattle.fat_layouts.proofs.layouts.Layouts.cured_offset.Goals as goal
 
 pub nonzero_div-copies : goal.nonzero_div-copies
@@ -31,7 +30,7 @@ pub cured_in-rest-requires-clause-within : goal.cured_in-rest-requires-clause-wi
 cured_in-rest-requires-clause-within c =
     let h = the_layout _ c.args.self.now c.self.inside.layouts.items c.self.view_is c.self.invariant c.args.t _ c.requires.complete c.index-part.result.now c.index-part.ensures in
     let w = kept_formed _ c.args.self.now c.self.inside.layouts.items c.self.view_is c.self.invariant in
-    let m = mod-lt c.args.offset (part_some c.args.self.now.table w c.args.self.now.kinds c.args.t c.index-part.result.now h c.requires.complete) in omega arith
+    rest_within c.args.self.now.table w c.args.self.now.kinds c.args.t c.index-part.result.now h c.requires.complete c.args.offset
 
 pub overflow_mul-result : goal.overflow_mul-result
 overflow_mul-result c =

@@ -12,7 +12,7 @@ use cc_base::NoMemory;
 use std::alloc::Global;
 
 /// The most spots of an array whose layout is kept as a whole.
-const FEW_SPOTS: usize = 256;
+const FEW_SPOTS: usize = 1024;
 
 /// As many copies of a layout, one behind another.
 #[derive(Debug, Drop)]

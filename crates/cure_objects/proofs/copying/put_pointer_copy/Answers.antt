@@ -31,6 +31,11 @@ returns-in-Ok-None c types =
     grows_failed _ _ _ _ (no_type (whole_of c.args.k.now) c.args.to.1 c.args.from.node c.args.from.ty
     (rw (c.in-Ok-None.field-0-is, c.requires) at c.in-Ok-None.ensures.none)) c.refuse.ensures
 
+pub put_struct-requires : goal.put_struct-requires
+put_struct-requires c =
+    let there = rw (c.in-Ok-Some.field-0-is, c.requires) at c.in-Ok-Some.ensures.there in
+    (subst (λ (x : Layout). TellsPointers c.args.k.now.layouts.now.table c.args.from.ty x) (sym c.layout.ensures) there).spots
+
 -- memory was wanted
 pub returns-in-Err : goal.returns-in-Err
 returns-in-Err c types = grows_skipped _ _ _ _ c.fail.ensures.ready c.fail.ensures.failed

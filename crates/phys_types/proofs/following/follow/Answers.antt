@@ -1,4 +1,4 @@
-use Rattle.std.proofs.Common.{sym, subst, ◌∙◌, arith}
+use Rattle.std.proofs.Common.{sym, ◌∙◌, arith}
 use Rattle.phys_types.proofs.Queue.{follow_start, follow_more, follow_done, equal_at, step_within, step_small}
 use Rattle.phys_types.proofs.following.follow.Goals as goal
 

@@ -1,4 +1,5 @@
-use Rattle.std.proofs.Common.{take, ap, ◌∙◌, arith}
+use Rattle.std.proofs.Common.{take, ap, sym, subst, ◌∙◌, arith}
+use Rattle.phys_types.specs.Numbers.{AreLow}
 use Rattle.phys_types.specs.Spots.{copies}
 use Rattle.phys_types.proofs.Keeping.{front_copies, fewer_small, once_front, once_all}
 use Rattle.phys_types.proofs.lending.lend_front.Goals as goal
@@ -8,6 +9,9 @@ returns-then-len-limit-clause-size c = once_all c.args.kept.now (omega arith)
 
 pub returns-then-len-limit-clause-spots : goal.returns-then-len-limit-clause-spots
 returns-then-len-limit-clause-spots c = once_front c.args.kept.now c.args.limit (omega arith) (omega arith)
+
+pub copied-requires-clause-low : goal.copied-requires-clause-low
+copied-requires-clause-low c = subst AreLow (sym c.deref.ensures.value) c.requires.0.0
 
 pub copied-requires-clause-small : goal.copied-requires-clause-small
 copied-requires-clause-small c = fewer_small c.enough-count.result c.args.kept.now.count c.args.kept.now.part.size c.enough-count.ensures.few c.requires.1

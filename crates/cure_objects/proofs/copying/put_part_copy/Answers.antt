@@ -15,7 +15,7 @@ returns-in-Some c types =
     let at = c.args.at in
     let far = rw (c.in-Some.is, c.kind_of-kind.ensures) at c.part_offset.ensures.there in
     let complete = rw c.in-Some.is at c.part_offset.ensures.complete in
-    let there = rw (c.in-Ok-Some.field-0-is, c.requires) at c.in-Ok-Some.ensures.there in
+    let there = rw (c.in-Ok-Some.is, c.in-Ok-Some.field-0-is, c.requires) at c.layout_in.ensures.there in
     let told = subst (λ (x : Layout). TellsPointers k.layouts.now.table from.ty x) (sym c.layout.ensures) there in
     let set = rw c.kind_of-kind.ensures at c.put_part.ensures in
     let lines = rw (c.kind_of.ensures, c.kind_of-kind.ensures, c.pointer_slots.ensures, c.column.ensures.value) at c.put_struct.ensures in
@@ -31,11 +31,11 @@ returns-in-None c types =
 pub returns-in-Ok-None : goal.returns-in-Ok-None
 returns-in-Ok-None c types =
     grows_failed _ _ _ _ (no_part_type (whole_of c.args.k.now) c.args.to.home c.args.to.ty c.args.to.offset c.args.from.node c.args.from.ty
-    (rw (c.in-Ok-None.field-0-is, c.requires) at c.in-Ok-None.ensures.none)) c.refuse-in-Ok-None.ensures
+    (rw (c.in-Ok-None.is, c.in-Ok-None.field-0-is, c.requires) at c.layout_in.ensures.none)) c.refuse-in-Ok-None.ensures
 
 pub put_struct-requires : goal.put_struct-requires
 put_struct-requires c =
-    let there = rw (c.in-Ok-Some.field-0-is, c.requires) at c.in-Ok-Some.ensures.there in
+    let there = rw (c.in-Ok-Some.is, c.in-Ok-Some.field-0-is, c.requires) at c.layout_in.ensures.there in
     (subst (λ (x : Layout). TellsPointers c.args.k.now.layouts.now.table c.args.from.ty x) (sym c.layout.ensures) there).spots
 
 -- memory was wanted

@@ -13,7 +13,7 @@ returns-in-Ok-Some c types =
     let to = c.args.to in
     let from = c.args.from in
     let at = c.args.at in
-    let there = rw (c.in-Ok-Some.field-0-is, c.requires) at c.in-Ok-Some.ensures.there in
+    let there = rw (c.in-Ok-Some.is, c.in-Ok-Some.field-0-is, c.requires) at c.layout_in.ensures.there in
     let told = subst (λ (x : Layout). TellsPointers k.layouts.now.table from.ty x) (sym c.layout.ensures) there in
     let lines = rw (
       c.kind_of.ensures,
@@ -29,11 +29,11 @@ returns-in-Ok-Some c types =
 pub returns-in-Ok-None : goal.returns-in-Ok-None
 returns-in-Ok-None c types =
     grows_failed _ _ _ _ (no_type (whole_of c.args.k.now) c.args.to.1 c.args.from.node c.args.from.ty
-    (rw (c.in-Ok-None.field-0-is, c.requires) at c.in-Ok-None.ensures.none)) c.refuse.ensures
+    (rw (c.in-Ok-None.is, c.in-Ok-None.field-0-is, c.requires) at c.layout_in.ensures.none)) c.refuse.ensures
 
 pub put_struct-requires : goal.put_struct-requires
 put_struct-requires c =
-    let there = rw (c.in-Ok-Some.field-0-is, c.requires) at c.in-Ok-Some.ensures.there in
+    let there = rw (c.in-Ok-Some.is, c.in-Ok-Some.field-0-is, c.requires) at c.layout_in.ensures.there in
     (subst (λ (x : Layout). TellsPointers c.args.k.now.layouts.now.table c.args.from.ty x) (sym c.layout.ensures) there).spots
 
 -- memory was wanted

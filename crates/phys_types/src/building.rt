@@ -134,6 +134,18 @@ fn member_layouts<'a>(
     Ok(parts)
 }
 
+/// The layouts that are lent.
+fn layouts_of<'a>(alloc: Global, lents: &'a [Lent<'_>]) -> Result<Vec<&'a Layout>, NoMemory>
+    ensures same { IfOk result (λ parts. map (λ p. p.now) parts.items ≡ map lent_layout lents.now) }
+    ensures count { IfOk result (λ parts. length parts.items ≡ length lents.now) }
+{
+    let mut parts = Vec::with_capacity(alloc, lents.len())?;
+    'lents: for lent in lents {
+        parts.push(lent.layout())?;
+    }
+    Ok(parts)
+}
+
 /// The larger layout, the first of two of one size.
 fn larger<'a>(x: &'a Layout, y: &'a Layout) -> &'a Layout
     ensures { result.now ≡ larger x.now y.now }
@@ -142,23 +154,23 @@ fn larger<'a>(x: &'a Layout, y: &'a Layout) -> &'a Layout
 }
 
 /// The largest layout, the first where several are.
-fn largest<'a>(first: &'a Layout, parts: &'a [Lent<'_>]) -> &'a Layout
-    ensures { result.now ≡ fold larger first.now (map lent_layout parts.now) }
+fn largest<'a>(first: &'a Layout, parts: &[&'a Layout]) -> &'a Layout
+    ensures { result.now ≡ fold larger first.now (map (λ p. p.now) parts.now) }
 {
     let mut largest = first;
     'parts: for part in parts {
-        largest = larger(largest, part.layout());
+        largest = larger(largest, *part);
     }
     largest
 }
 
 /// Whether a layout begins with each of the others.
-fn begins_with_each(numbers: &[usize], x: &Layout, parts: &[Lent<'_>]) -> bool
+fn begins_with_each(numbers: &[usize], x: &Layout, parts: &[&Layout]) -> bool
     ensures { result ≡ list_all (begins_spots (number_in numbers.now) x.now)
-        (map lent_layout parts.now) }
+        (map (λ p. p.now) parts.now) }
 {
     'parts: for part in parts {
-        if !begins(numbers, x, part.layout()) {
+        if !begins(numbers, x, *part) {
             return false;
         }
     }
@@ -166,11 +178,11 @@ fn begins_with_each(numbers: &[usize], x: &Layout, parts: &[Lent<'_>]) -> bool
 }
 
 /// Whether one of the layouts holds a pointer.
-fn holds_some(parts: &[Lent<'_>]) -> bool
-    ensures { result ≡ list_any (λ x. x.holds) (map lent_layout parts.now) }
+fn holds_some(parts: &[&Layout]) -> bool
+    ensures { result ≡ list_any (λ x. x.holds) (map (λ p. p.now) parts.now) }
 {
     'parts: for part in parts {
-        if part.layout().holds {
+        if part.holds {
             return true;
         }
     }
@@ -183,16 +195,16 @@ fn union_of(
     numbers: &[usize],
     t: TypeId,
     size: u64,
-    parts: &[Lent<'_>],
+    parts: &[&Layout],
 ) -> Result<Layout, NoMemory>
     requires some { 0 < length parts.now }
     ensures { IfOk result (λ layout. IsUnionOf (number_in numbers.now) t size
-        (map lent_layout parts.now) layout) }
+        (map (λ p. p.now) parts.now) layout) }
 {
     if !holds_some(parts) {
         return Ok(raw_layout(alloc, size));
     }
-    let first = largest(parts[0].layout(), parts);
+    let first = largest(parts[0], parts);
     if !begins_with_each(numbers, first, parts) {
         return item_layout(alloc, Item::Mixed(t, size), true);
     }
@@ -221,7 +233,8 @@ fn union_layout(
     ensures { ArePartsShown types.now (same_number (number_in numbers.now)) places.now built.now t
         → IfOk result (IsLayoutOf types.now (same_number (number_in numbers.now)) t) }
 {
-    let parts = member_layouts(alloc, types, places, built, t)?;
+    let lents = member_layouts(alloc, types, places, built, t)?;
+    let parts = layouts_of(alloc, &lents)?;
     union_of(alloc, numbers, t, types.size_of(t), &parts)
 }
 

@@ -577,6 +577,49 @@ fn pointers_of_large_arrays(rt: HostRuntime) -> Result<(), TypeFault> {
     Ok(())
 }
 
+/// Four thousand arrays of up to 130,000 pointers, each with a node of its own, take little memory.
+#[test]
+fn many_long_arrays(rt: HostRuntime) -> Result<(), TypeFault> {
+    let rt = &rt;
+    let alloc = rt.alloc();
+    let mut types = Types::new(alloc)?;
+    let t = &mut types;
+    let first = pointer(rt, t, 0, CHAR);
+    let longest = array(rt, t, first, 130_000);
+    for i in 1..4000_u32 {
+        let text = pointer(rt, t, i, CHAR);
+        let _next = array(rt, t, text, 130_000_u64.saturating_sub(i as u64));
+    }
+    let last = pointer(rt, t, 4000, CHAR);
+    let half = array(rt, t, last, 65_000);
+    expect(rt, alloc, t, longest, half, FlowClass::UpTile);
+    Ok(())
+}
+
+/// Long arrays are equal to structs that have the same cells, and to no others, however far behind they differ.
+#[test]
+fn long_arrays_beside_structs(rt: HostRuntime) -> Result<(), TypeFault> {
+    let rt = &rt;
+    let alloc = rt.alloc();
+    let mut types = Types::new(alloc)?;
+    let t = &mut types;
+    let text = pointer(rt, t, 0, CHAR);
+    let word = pointer(rt, t, 1, INT);
+    let row = array(rt, t, text, 40);
+    let rows = array(rt, t, row, 40);
+    let list = array(rt, t, text, 1600);
+    let texts = pointers(rt, alloc, t, 2, 1600);
+    let same = structure(rt, alloc, t, 0, &texts);
+    let mut members = pointers(rt, alloc, t, 1602, 1599);
+    members.push(word).ok().expect(rt, "memory");
+    let other = structure(rt, alloc, t, 1, &members);
+    expect(rt, alloc, t, rows, list, FlowClass::Equal);
+    expect(rt, alloc, t, list, same, FlowClass::Equal);
+    expect(rt, alloc, t, list, other, FlowClass::Bad);
+    expect(rt, alloc, t, same, other, FlowClass::Bad);
+    Ok(())
+}
+
 /// As many millions.
 fn million(count: u64) -> u64
     requires { count ≡ 1 }

@@ -16,14 +16,14 @@ impl<'a> Machine<'a> {
     /// run takes no memory.
     ///
     /// Fails only for want of memory.
-    #[tactic(auto, unfolding(crate::specs::Ready::live_limit), using(crate::proofs::KeptLaws::bodies_ranged))]
+    #[tactic(auto, unfolding(crate::specs::Ready::live_limit))]
     pub fn new(alloc: Global, code: &'a Cured) -> Result<Machine<'a>, NoMemory>
         ensures { IfOk result (λ machine. machine ≡ code.now) }
     {
         let parts = code.parts();
         let functions = &parts.functions;
         let width = widest(&functions.0);
-        let Laid { operations, starts } = lay_out(alloc, &functions.0)?;
+        let Laid { operations, starts } = lay_out(alloc, parts)?;
         Ok(Machine {
             parts,
             operations,

@@ -225,7 +225,7 @@ static PAIRS: [(&str, &str, usize, &[(u32, u32)]); 31] = [
     ("nested", "{int,amount}", 1, &[(3, 4)]),
 ];
 
-/// Arrays of a million bytes, and structs of a thousand members: one pair of types again and again, or pointers with a node of its own each.
+/// Arrays of a million bytes, and structs of a thousand members: one pair of types again and again, or pointers with a node each.
 static LARGE_TYPES: [(&str, Made); 20] = [
     ("char", Made::Basic(1)),
     ("int", Made::Basic(5)),

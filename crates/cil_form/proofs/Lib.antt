@@ -5,6 +5,5 @@ pub mod InstructionLaws
 pub mod TypingLaws
 pub mod HeldLaws
 pub mod ShapedPrograms
-pub mod EmptyProgram
 pub mod AskedLaws
 pub mod TellsLaws

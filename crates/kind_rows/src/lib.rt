@@ -1,4 +1,4 @@
-//! Tests of types that correspond, of kinds that are solved, and of three-address code.
+//! Tests of types that correspond.
 #![tactic(auto)]
 
 #[cfg(test)]

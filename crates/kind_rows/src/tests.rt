@@ -1,5 +1,3 @@
-//! Worked rows of kinds: what the clauses of the types and of the solver leave to be seen.
+//! Worked rows of kinds: what the clauses of the types leave to be seen.
 
-mod blocks;
 mod pairs;
-mod solutions;

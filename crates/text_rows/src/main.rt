@@ -1,7 +1,8 @@
 //! Rows of cured text, as data. The input is a program with every line that there is, a line `=`, and then rows. A row is a
 //! number and a text that stands in place of that line of the program; after a text with `+` before it nothing follows, and
-//! after one with `-` not its own line feed either. A line `#` begins another program. For each row, and first for the
-//! program itself, a line is written: how the text is refused, or whether it is printed as it was read.
+//! after one with `-` not its own line feed either. A line `#` begins another program, and one with `# ` before it says what
+//! the rows below it show. For each row, and first for the program itself, a line is written: how the text is refused, or
+//! whether it is printed as it was read.
 #![tactic(auto)]
 
 use cured_text::{CuredFault, CuredLimit, Form, print, read};

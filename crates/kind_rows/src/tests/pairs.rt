@@ -1,24 +1,290 @@
 //! Pairs of types, and how a pointer flows from one to the other.
+//!
+//! Types are rows: each is made of earlier ones, by their names. A row of a flow has the names of the two types that are pointed to, and
+//! its class, or the nodes of the pointers that correspond in it.
 
-ghost use Rattle.std.specs.Prelude.{◌≡◌, [], length, IsTrue};
+ghost use Rattle.std.specs.Prelude.{◌≡◌, [], IsTrue};
 ghost use Rattle.std.specs.List.{All};
 ghost use Rattle.c_types.specs.Table.{IsType, IsComplete, IsAggregate, members_at};
 
 use c_types::{TypeFault, TypeList, TypeShape, Types};
-use cc_base::{NodeId, TypeId};
+use cc_base::{NoMemory, NodeId, TypeId};
 use phys_types::{FlowClass, Phys};
 use std::alloc::Global;
 use std::process::Abort;
-
-const VOID: TypeId = TypeId(0);
 
 const CHAR: TypeId = TypeId(1);
 
 const INT: TypeId = TypeId(5);
 
-const UNSIGNED: TypeId = TypeId(6);
+/// What the type of a row is. The names of members have blanks between them.
+enum Made {
+    /// It stands in each table, at this number.
+    Basic(u32),
+    /// A pointer, with its node.
+    Pointer(u32, &'static str),
+    Array(&'static str, u64),
+    /// A function of one parameter, which gives an `int`.
+    Function(&'static str),
+    Struct(&'static str),
+    Union(&'static str),
+    /// A struct without members.
+    Open,
+    /// The struct of this name that an earlier row has without members, with its members.
+    Completed(&'static str),
+    /// A struct whose members are these in turn, so many times.
+    Turns(&'static str, usize),
+    /// A struct of a thousand pointers to `char`, with nodes from this one on.
+    Texts(u32),
+}
 
-const LONG: TypeId = TypeId(7);
+/// Each struct that doesn't hold a pointer to itself has the name that its members spell. `entry` is that of a word counter,
+/// `struct entry { struct entry *next; char *word; void *data; }`; `numbers`, `counts`, `letters`, `words`, `lines` and `notes` are lists.
+static TYPES: [(&str, Made); 71] = [
+    ("void", Made::Basic(0)),
+    ("char", Made::Basic(1)),
+    ("int", Made::Basic(5)),
+    ("unsigned", Made::Basic(6)),
+    ("long", Made::Basic(7)),
+    ("char[4]", Made::Array("char", 4)),
+    ("int[3]", Made::Array("int", 3)),
+    ("open", Made::Open),
+    ("other", Made::Open),
+    ("text", Made::Pointer(0, "char")),
+    ("word", Made::Pointer(1, "char")),
+    ("line", Made::Pointer(2, "char")),
+    ("number", Made::Pointer(3, "int")),
+    ("amount", Made::Pointer(4, "int")),
+    ("whole", Made::Pointer(5, "unsigned")),
+    ("handle", Made::Pointer(6, "open")),
+    ("shared", Made::Pointer(7, "open")),
+    ("{int}", Made::Struct("int")),
+    ("{int,text}", Made::Struct("int text")),
+    ("{int,int,text}", Made::Struct("int int text")),
+    ("{int,text}[3]", Made::Array("{int,text}", 3)),
+    ("{int,word}", Made::Struct("int word")),
+    ("{long,text}", Made::Struct("long text")),
+    ("{char,word,whole}", Made::Struct("char word whole")),
+    ("{text,word}", Made::Struct("text word")),
+    ("{text,word}[2]", Made::Array("{text,word}", 2)),
+    ("{word,text}", Made::Struct("word text")),
+    ("{int,number}", Made::Struct("int number")),
+    ("{int,amount}", Made::Struct("int amount")),
+    ("entry", Made::Open),
+    ("next", Made::Pointer(8, "entry")),
+    ("data", Made::Pointer(9, "void")),
+    ("entry", Made::Completed("next word data")),
+    ("numbers", Made::Open),
+    ("more_numbers", Made::Pointer(10, "numbers")),
+    ("numbers", Made::Completed("int more_numbers")),
+    ("counts", Made::Open),
+    ("more_counts", Made::Pointer(11, "counts")),
+    ("counts", Made::Completed("int more_counts")),
+    ("letters", Made::Open),
+    ("more_letters", Made::Pointer(12, "letters")),
+    ("letters", Made::Completed("char char more_letters")),
+    ("words", Made::Open),
+    ("more_words", Made::Pointer(13, "words")),
+    ("words", Made::Completed("int more_words word")),
+    ("lines", Made::Open),
+    ("more_lines", Made::Pointer(14, "lines")),
+    ("lines", Made::Completed("text more_lines")),
+    ("notes", Made::Open),
+    ("more_notes", Made::Pointer(15, "notes")),
+    ("notes", Made::Completed("word more_notes")),
+    ("first_line", Made::Pointer(16, "lines")),
+    ("first_note", Made::Pointer(17, "notes")),
+    (
+        "{first_line,more_lines}",
+        Made::Struct("first_line more_lines"),
+    ),
+    (
+        "{first_note,more_notes}",
+        Made::Struct("first_note more_notes"),
+    ),
+    ("of_number", Made::Function("number")),
+    ("of_whole", Made::Function("whole")),
+    ("of_text", Made::Function("text")),
+    ("of_int", Made::Function("int")),
+    ("of_unsigned", Made::Function("unsigned")),
+    ("call", Made::Pointer(18, "of_number")),
+    ("cry", Made::Pointer(19, "of_text")),
+    ("again", Made::Pointer(20, "of_whole")),
+    ("mixed", Made::Union("int number")),
+    ("other_mixed", Made::Union("int number")),
+    ("mixed[3]", Made::Array("mixed", 3)),
+    ("{mixed}", Made::Struct("mixed")),
+    ("{mixed,number}", Made::Struct("mixed number")),
+    ("{mixed,amount}", Made::Struct("mixed amount")),
+    ("nested", Made::Union("{int} {int,number}")),
+    ("raw", Made::Union("int char")),
+];
+
+/// Flows from a pointer to the first type to one to the second.
+static CLASSES: [(&str, &str, FlowClass); 45] = [
+    ("int", "char[4]", FlowClass::Equal),
+    ("int", "unsigned", FlowClass::Equal),
+    ("int", "char", FlowClass::UpTile),
+    ("char", "int", FlowClass::DownTile),
+    ("int[3]", "int", FlowClass::UpTile),
+    ("int", "int[3]", FlowClass::DownTile),
+    ("int[3]", "long", FlowClass::UpTile),
+    ("int", "void", FlowClass::Up),
+    ("void", "int", FlowClass::Down),
+    ("void", "void", FlowClass::Equal),
+    ("open", "void", FlowClass::Up),
+    ("open", "open", FlowClass::Equal),
+    ("open", "other", FlowClass::Bad),
+    ("open", "char", FlowClass::Bad),
+    ("{int,text}", "{int}", FlowClass::Up),
+    ("{int}", "{int,text}", FlowClass::Down),
+    ("{int}", "int", FlowClass::Equal),
+    ("{int,text}", "{int,int,text}", FlowClass::Equal),
+    ("{int,int,text}", "long", FlowClass::Up),
+    ("long", "{int,int,text}", FlowClass::Down),
+    ("{int,text}[3]", "{int,text}", FlowClass::UpTile),
+    ("{int,text}", "{int,text}[3]", FlowClass::DownTile),
+    ("number", "text", FlowClass::Bad),
+    ("{int,text}", "text", FlowClass::Bad),
+    ("{int}", "void", FlowClass::Up),
+    ("void", "{int}", FlowClass::Down),
+    ("entry", "entry", FlowClass::Equal),
+    ("numbers", "counts", FlowClass::Equal),
+    ("numbers", "entry", FlowClass::Bad),
+    ("numbers", "letters", FlowClass::Equal),
+    ("words", "numbers", FlowClass::Bad),
+    ("of_number", "of_whole", FlowClass::Equal),
+    ("of_number", "of_text", FlowClass::Bad),
+    ("of_int", "of_unsigned", FlowClass::Bad),
+    ("of_number", "void", FlowClass::Bad),
+    ("int", "of_number", FlowClass::Bad),
+    ("call", "again", FlowClass::Equal),
+    ("call", "cry", FlowClass::Bad),
+    ("mixed", "mixed", FlowClass::Equal),
+    ("mixed", "other_mixed", FlowClass::Bad),
+    ("mixed", "{mixed}", FlowClass::Equal),
+    ("mixed[3]", "mixed", FlowClass::UpTile),
+    ("mixed", "int", FlowClass::Bad),
+    ("nested", "{int,number}", FlowClass::Equal),
+    ("raw", "int", FlowClass::Equal),
+];
+
+/// Such flows, with how many pairs of nodes correspond, and these pairs. Where types tile, the pointers at offsets that agree modulo the
+/// common unit correspond, across the two and within each.
+static PAIRS: [(&str, &str, usize, &[(u32, u32)]); 31] = [
+    ("{long,text}", "{int,word}", 1, &[(0, 1)]),
+    ("{long,text}", "{long,text}", 1, &[(0, 0)]),
+    ("{char,word,whole}", "{long,text}", 1, &[(1, 0)]),
+    ("{long,text}", "{char,word,whole}", 1, &[(0, 1)]),
+    ("{char,word,whole}", "{int}", 0, &[]),
+    ("number", "whole", 1, &[(3, 5)]),
+    ("text", "number", 0, &[]),
+    ("lines", "notes", 2, &[(0, 1), (14, 15)]),
+    ("lines", "lines", 2, &[(0, 0), (14, 14)]),
+    ("first_line", "first_note", 3, &[(16, 17), (0, 1), (14, 15)]),
+    (
+        "{first_line,more_lines}",
+        "{first_note,more_notes}",
+        3,
+        &[(16, 17), (14, 15), (0, 1)],
+    ),
+    ("{int}", "void", 0, &[]),
+    ("void", "{int}", 0, &[]),
+    ("void", "void", 0, &[]),
+    ("entry", "void", 0, &[]),
+    ("entry", "entry", 3, &[(8, 8), (1, 1), (9, 9)]),
+    ("entry", "next", 3, &[(8, 8), (1, 1), (9, 9)]),
+    ("open", "open", 0, &[]),
+    ("handle", "shared", 1, &[(6, 7)]),
+    (
+        "{text,word}",
+        "line",
+        7,
+        &[(0, 2), (1, 2), (0, 0), (0, 1), (1, 0), (1, 1), (2, 2)],
+    ),
+    (
+        "line",
+        "{text,word}",
+        7,
+        &[(2, 0), (2, 1), (0, 0), (0, 1), (1, 0), (1, 1), (2, 2)],
+    ),
+    ("{int,text}[3]", "{int,text}", 1, &[(0, 0)]),
+    ("{text,word}", "{word,text}", 2, &[(0, 1), (1, 0)]),
+    (
+        "{text,word}[2]",
+        "{word,text}",
+        4,
+        &[(0, 1), (1, 0), (0, 0), (1, 1)],
+    ),
+    ("of_number", "of_whole", 1, &[(3, 5)]),
+    ("of_number", "of_text", 0, &[]),
+    ("of_int", "of_int", 0, &[]),
+    ("call", "again", 2, &[(18, 20), (3, 5)]),
+    ("mixed", "mixed", 0, &[]),
+    ("{mixed,number}", "{mixed,amount}", 1, &[(3, 4)]),
+    ("nested", "{int,amount}", 1, &[(3, 4)]),
+];
+
+/// Arrays of a million bytes, and structs of a thousand members: one pair of types again and again, or pointers with a node each.
+static LARGE_TYPES: [(&str, Made); 20] = [
+    ("char", Made::Basic(1)),
+    ("int", Made::Basic(5)),
+    ("long", Made::Basic(7)),
+    ("text", Made::Pointer(0, "char")),
+    ("word", Made::Pointer(1, "char")),
+    ("{int,text}", Made::Struct("int text")),
+    ("{int,word}", Made::Struct("int word")),
+    ("char[1000000]", Made::Array("char", 1_000_000)),
+    ("long[125000]", Made::Array("long", 125_000)),
+    ("text[125000]", Made::Array("text", 125_000)),
+    ("{int,text}[62500]", Made::Array("{int,text}", 62_500)),
+    ("{int,text}[62499]", Made::Array("{int,text}", 62_499)),
+    ("{int,word}[62500]", Made::Array("{int,word}", 62_500)),
+    ("{int,word}[31250]", Made::Array("{int,word}", 31_250)),
+    ("(int,text)*500", Made::Turns("int text", 500)),
+    ("(int,text)*499", Made::Turns("int text", 499)),
+    ("(int,word)*500", Made::Turns("int word", 500)),
+    ("texts", Made::Texts(1000)),
+    ("words", Made::Texts(2000)),
+    ("texts[3]", Made::Array("texts", 3)),
+];
+
+static LARGE_CLASSES: [(&str, &str, FlowClass); 7] = [
+    ("char[1000000]", "long[125000]", FlowClass::Equal),
+    ("char[1000000]", "char", FlowClass::UpTile),
+    ("{int,text}[62500]", "{int,text}[62499]", FlowClass::UpTile),
+    ("{int,text}[62500]", "char[1000000]", FlowClass::Bad),
+    ("(int,text)*500", "(int,word)*500", FlowClass::Equal),
+    ("(int,text)*500", "(int,text)*499", FlowClass::UpTile),
+    ("(int,text)*499", "(int,word)*500", FlowClass::DownTile),
+];
+
+/// How many pairs of nodes correspond, and these pairs, or some of them where there are a thousand.
+static LARGE_PAIRS: [(&str, &str, usize, &[(u32, u32)]); 8] = [
+    ("char[1000000]", "char", 0, &[]),
+    ("{int,text}[62500]", "{int,word}[62500]", 1, &[(0, 1)]),
+    (
+        "{int,text}[62500]",
+        "{int,word}",
+        3,
+        &[(0, 1), (0, 0), (1, 1)],
+    ),
+    (
+        "{int,text}[62500]",
+        "{int,word}[31250]",
+        3,
+        &[(0, 1), (0, 0), (1, 1)],
+    ),
+    ("text[125000]", "word", 3, &[(0, 1), (0, 0), (1, 1)]),
+    ("texts", "words", 1000, &[(1000, 2000), (1999, 2999)]),
+    (
+        "texts[3]",
+        "words",
+        3000,
+        &[(1000, 2000), (1000, 1000), (2999, 2999)],
+    ),
+    ("texts", "texts[3]", 1000, &[(1000, 1000), (1999, 1999)]),
+];
 
 /// Whether all are complete types of the table.
 fn are_complete(types: &Types, members: &[TypeId]) -> bool
@@ -73,11 +339,6 @@ fn function(rt: &impl Abort, alloc: Global, types: &mut Types, parameter: TypeId
         .expect(rt, "a function")
 }
 
-/// A struct without members.
-fn tag(rt: &impl Abort, types: &mut Types, number: u32) -> TypeId {
-    types.add(TypeShape::Struct(number)).expect(rt, "a struct")
-}
-
 /// Gives a struct or union its members.
 fn define(
     rt: &impl Abort,
@@ -92,423 +353,32 @@ fn define(
     types.define(t, Vec::from_slice(alloc, members)?)
 }
 
-/// A new struct with these members.
-fn structure(
-    rt: &impl Abort,
-    alloc: Global,
-    types: &mut Types,
-    number: u32,
-    members: &[TypeId],
-) -> TypeId {
-    let t = tag(rt, types, number);
-    define(rt, alloc, types, t, members).expect(rt, "members");
-    t
-}
-
-/// Compares the class of a flow.
-fn expect(
-    rt: &impl Abort,
-    alloc: Global,
-    types: &Types,
-    from: TypeId,
-    to: TypeId,
-    class: FlowClass,
-) {
-    assert!(rt; from.0 < types.count() && to.0 < types.count());
-    let mut phys = Phys::new(alloc);
-    assert_eq!(rt;
-        phys.class(types, from, to).expect(rt, "memory"),
-        class,
-        "from {} to {}",
-        from.0,
-        to.0
-    );
-}
-
-/// Compares the nodes of the pointers that correspond in a flow, in any order.
-fn expect_pairs(
-    rt: &impl Abort,
-    alloc: Global,
-    types: &Types,
-    from: TypeId,
-    to: TypeId,
-    nodes: &[(u32, u32)],
-) {
-    assert!(rt; from.0 < types.count() && to.0 < types.count());
-    let mut phys = Phys::new(alloc);
-    let pairs = phys.pairs(types, from, to).expect(rt, "memory");
-    assert_eq!(rt; pairs.len(), nodes.len(), "from {} to {}", from.0, to.0);
-    for (a, b) in nodes {
-        let pair = (NodeId(*a), NodeId(*b));
-        assert!(rt; pairs.contains(&pair), "nodes {} and {}", *a, *b);
+/// The type of a name, by the last row that has it.
+fn named(rt: &impl Abort, names: &[(&'static str, TypeId)], name: &str) -> TypeId {
+    let mut found = None;
+    for (known, t) in names {
+        if *known == name {
+            found = Some(*t);
+        }
     }
+    found.expect(rt, name)
 }
 
-#[test]
-fn raw_cells_and_void(rt: HostRuntime) -> Result<(), TypeFault> {
-    let rt = &rt;
-    let alloc = rt.alloc();
-    let mut types = Types::new(alloc)?;
-    let t = &mut types;
-    let four = array(rt, t, CHAR, 4);
-    let three = array(rt, t, INT, 3);
-    let open = tag(rt, t, 0);
-    let other = tag(rt, t, 1);
-    expect(rt, alloc, t, INT, four, FlowClass::Equal);
-    expect(rt, alloc, t, INT, UNSIGNED, FlowClass::Equal);
-    expect(rt, alloc, t, INT, CHAR, FlowClass::UpTile);
-    expect(rt, alloc, t, CHAR, INT, FlowClass::DownTile);
-    expect(rt, alloc, t, three, INT, FlowClass::UpTile);
-    expect(rt, alloc, t, INT, three, FlowClass::DownTile);
-    expect(rt, alloc, t, three, LONG, FlowClass::UpTile);
-    expect(rt, alloc, t, INT, VOID, FlowClass::Up);
-    expect(rt, alloc, t, VOID, INT, FlowClass::Down);
-    expect(rt, alloc, t, VOID, VOID, FlowClass::Equal);
-    expect(rt, alloc, t, open, VOID, FlowClass::Up);
-    expect(rt, alloc, t, open, open, FlowClass::Equal);
-    expect(rt, alloc, t, open, other, FlowClass::Bad);
-    expect(rt, alloc, t, open, CHAR, FlowClass::Bad);
-    Ok(())
-}
-
-#[test]
-fn structs_with_pointers(rt: HostRuntime) -> Result<(), TypeFault> {
-    let rt = &rt;
-    let alloc = rt.alloc();
-    let mut types = Types::new(alloc)?;
-    let t = &mut types;
-    let text = pointer(rt, t, 0, CHAR);
-    let number = pointer(rt, t, 1, INT);
-    let short = structure(rt, alloc, t, 0, &[INT]);
-    let long = structure(rt, alloc, t, 1, &[INT, text]);
-    let wide = structure(rt, alloc, t, 2, &[INT, INT, text]);
-    let three = array(rt, t, long, 3);
-    expect(rt, alloc, t, long, short, FlowClass::Up);
-    expect(rt, alloc, t, short, long, FlowClass::Down);
-    expect(rt, alloc, t, short, INT, FlowClass::Equal);
-    expect(rt, alloc, t, long, wide, FlowClass::Equal);
-    expect(rt, alloc, t, wide, LONG, FlowClass::Up);
-    expect(rt, alloc, t, LONG, wide, FlowClass::Down);
-    expect(rt, alloc, t, three, long, FlowClass::UpTile);
-    expect(rt, alloc, t, long, three, FlowClass::DownTile);
-    expect(rt, alloc, t, number, text, FlowClass::Bad);
-    expect(rt, alloc, t, long, text, FlowClass::Bad);
-    Ok(())
-}
-
-/// `struct entry { struct entry *next; char *word; void *data; }` and `struct count { int n; }` of a word counter, and two
-/// lists that differ in a tag.
-#[test]
-fn recursive_structs(rt: HostRuntime) -> Result<(), TypeFault> {
-    let rt = &rt;
-    let alloc = rt.alloc();
-    let mut types = Types::new(alloc)?;
-    let t = &mut types;
-    let entry = tag(rt, t, 0);
-    let next = pointer(rt, t, 0, entry);
-    let word = pointer(rt, t, 1, CHAR);
-    let data = pointer(rt, t, 2, VOID);
-    define(rt, alloc, t, entry, &[next, word, data])?;
-    let count = structure(rt, alloc, t, 1, &[INT]);
-    expect(rt, alloc, t, count, VOID, FlowClass::Up);
-    expect(rt, alloc, t, VOID, count, FlowClass::Down);
-    expect(rt, alloc, t, entry, entry, FlowClass::Equal);
-    let list = tag(rt, t, 2);
-    let tail = pointer(rt, t, 3, list);
-    define(rt, alloc, t, list, &[INT, tail])?;
-    let other = tag(rt, t, 3);
-    let rest = pointer(rt, t, 4, other);
-    define(rt, alloc, t, other, &[INT, rest])?;
-    expect(rt, alloc, t, list, other, FlowClass::Equal);
-    expect(rt, alloc, t, list, entry, FlowClass::Bad);
-    let letters = tag(rt, t, 4);
-    let more = pointer(rt, t, 5, letters);
-    define(rt, alloc, t, letters, &[CHAR, CHAR, more])?;
-    expect(rt, alloc, t, list, letters, FlowClass::Equal);
-    let words = tag(rt, t, 5);
-    let last = pointer(rt, t, 6, words);
-    define(rt, alloc, t, words, &[INT, last, word])?;
-    expect(rt, alloc, t, words, list, FlowClass::Bad);
-    Ok(())
-}
-
-#[test]
-fn functions(rt: HostRuntime) -> Result<(), TypeFault> {
-    let rt = &rt;
-    let alloc = rt.alloc();
-    let mut types = Types::new(alloc)?;
-    let t = &mut types;
-    let number = pointer(rt, t, 0, INT);
-    let whole = pointer(rt, t, 1, UNSIGNED);
-    let text = pointer(rt, t, 2, CHAR);
-    let of_number = function(rt, alloc, t, number);
-    let of_whole = function(rt, alloc, t, whole);
-    let of_text = function(rt, alloc, t, text);
-    let of_int = function(rt, alloc, t, INT);
-    let of_unsigned = function(rt, alloc, t, UNSIGNED);
-    expect(rt, alloc, t, of_number, of_whole, FlowClass::Equal);
-    expect(rt, alloc, t, of_number, of_text, FlowClass::Bad);
-    expect(rt, alloc, t, of_int, of_unsigned, FlowClass::Bad);
-    expect(rt, alloc, t, of_number, VOID, FlowClass::Bad);
-    expect(rt, alloc, t, INT, of_number, FlowClass::Bad);
-    let call = pointer(rt, t, 3, of_number);
-    let cry = pointer(rt, t, 4, of_text);
-    let again = pointer(rt, t, 5, of_whole);
-    expect(rt, alloc, t, call, again, FlowClass::Equal);
-    expect(rt, alloc, t, call, cry, FlowClass::Bad);
-    Ok(())
-}
-
-#[test]
-fn unions(rt: HostRuntime) -> Result<(), TypeFault> {
-    let rt = &rt;
-    let alloc = rt.alloc();
-    let mut types = Types::new(alloc)?;
-    let t = &mut types;
-    let number = pointer(rt, t, 0, INT);
-    let mixed = t.add(TypeShape::Union(0))?;
-    define(rt, alloc, t, mixed, &[INT, number])?;
-    let other = t.add(TypeShape::Union(1))?;
-    define(rt, alloc, t, other, &[INT, number])?;
-    let wrapped = structure(rt, alloc, t, 2, &[mixed]);
-    let three = array(rt, t, mixed, 3);
-    expect(rt, alloc, t, mixed, mixed, FlowClass::Equal);
-    expect(rt, alloc, t, mixed, other, FlowClass::Bad);
-    expect(rt, alloc, t, mixed, wrapped, FlowClass::Equal);
-    expect(rt, alloc, t, three, mixed, FlowClass::UpTile);
-    expect(rt, alloc, t, mixed, INT, FlowClass::Bad);
-    let long = structure(rt, alloc, t, 3, &[INT, number]);
-    let short = structure(rt, alloc, t, 4, &[INT]);
-    let nested = t.add(TypeShape::Union(5))?;
-    define(rt, alloc, t, nested, &[short, long])?;
-    let raw = t.add(TypeShape::Union(6))?;
-    define(rt, alloc, t, raw, &[INT, CHAR])?;
-    expect(rt, alloc, t, nested, long, FlowClass::Equal);
-    expect(rt, alloc, t, raw, INT, FlowClass::Equal);
-    Ok(())
-}
-
-#[test]
-fn pointers_at_one_offset(rt: HostRuntime) -> Result<(), TypeFault> {
-    let rt = &rt;
-    let alloc = rt.alloc();
-    let mut types = Types::new(alloc)?;
-    let t = &mut types;
-    let text = pointer(rt, t, 0, CHAR);
-    let number = pointer(rt, t, 1, INT);
-    let word = pointer(rt, t, 2, CHAR);
-    let whole = pointer(rt, t, 3, UNSIGNED);
-    let short = structure(rt, alloc, t, 0, &[LONG, text]);
-    let other = structure(rt, alloc, t, 1, &[INT, word]);
-    let long = structure(rt, alloc, t, 2, &[CHAR, word, whole]);
-    let bare = structure(rt, alloc, t, 3, &[INT]);
-    expect_pairs(rt, alloc, t, short, other, &[(0, 2)]);
-    expect_pairs(rt, alloc, t, short, short, &[(0, 0)]);
-    expect_pairs(rt, alloc, t, long, short, &[(2, 0)]);
-    expect_pairs(rt, alloc, t, short, long, &[(0, 2)]);
-    expect_pairs(rt, alloc, t, long, bare, &[]);
-    expect_pairs(rt, alloc, t, number, whole, &[(1, 3)]);
-    expect_pairs(rt, alloc, t, text, number, &[]);
-    Ok(())
-}
-
-/// A pointer to a list, and what the pointers in the list lead to.
-#[test]
-fn pointers_at_every_depth(rt: HostRuntime) -> Result<(), TypeFault> {
-    let rt = &rt;
-    let alloc = rt.alloc();
-    let mut types = Types::new(alloc)?;
-    let t = &mut types;
-    let text = pointer(rt, t, 0, CHAR);
-    let word = pointer(rt, t, 1, CHAR);
-    let list = tag(rt, t, 0);
-    let tail = pointer(rt, t, 2, list);
-    define(rt, alloc, t, list, &[text, tail])?;
-    let other = tag(rt, t, 1);
-    let rest = pointer(rt, t, 3, other);
-    define(rt, alloc, t, other, &[word, rest])?;
-    let first = pointer(rt, t, 4, list);
-    let second = pointer(rt, t, 5, other);
-    expect_pairs(rt, alloc, t, list, other, &[(0, 1), (2, 3)]);
-    expect_pairs(rt, alloc, t, list, list, &[(0, 0), (2, 2)]);
-    expect_pairs(rt, alloc, t, first, second, &[(4, 5), (0, 1), (2, 3)]);
-    let lists = structure(rt, alloc, t, 2, &[first, tail]);
-    let others = structure(rt, alloc, t, 3, &[second, rest]);
-    expect_pairs(rt, alloc, t, lists, others, &[(4, 5), (2, 3), (0, 1)]);
-    Ok(())
-}
-
-/// `struct entry { struct entry *next; char *word; void *data; }` and `struct count { int n; }` of a word counter.
-#[test]
-fn pointers_of_a_word_counter(rt: HostRuntime) -> Result<(), TypeFault> {
-    let rt = &rt;
-    let alloc = rt.alloc();
-    let mut types = Types::new(alloc)?;
-    let t = &mut types;
-    let entry = tag(rt, t, 0);
-    let next = pointer(rt, t, 0, entry);
-    let word = pointer(rt, t, 1, CHAR);
-    let data = pointer(rt, t, 2, VOID);
-    define(rt, alloc, t, entry, &[next, word, data])?;
-    let count = structure(rt, alloc, t, 1, &[INT]);
-    let open = tag(rt, t, 2);
-    let handle = pointer(rt, t, 3, open);
-    let shared = pointer(rt, t, 4, open);
-    expect_pairs(rt, alloc, t, count, VOID, &[]);
-    expect_pairs(rt, alloc, t, VOID, count, &[]);
-    expect_pairs(rt, alloc, t, VOID, VOID, &[]);
-    expect_pairs(rt, alloc, t, entry, VOID, &[]);
-    expect_pairs(rt, alloc, t, entry, entry, &[(0, 0), (1, 1), (2, 2)]);
-    expect_pairs(rt, alloc, t, entry, next, &[(0, 0), (1, 1), (2, 2)]);
-    expect_pairs(rt, alloc, t, open, open, &[]);
-    expect_pairs(rt, alloc, t, handle, shared, &[(3, 4)]);
-    Ok(())
-}
-
-/// Where types tile, the pointers at offsets that agree modulo the common unit correspond, across the two and within each.
-#[test]
-fn pointers_of_types_that_tile(rt: HostRuntime) -> Result<(), TypeFault> {
-    let rt = &rt;
-    let alloc = rt.alloc();
-    let mut types = Types::new(alloc)?;
-    let t = &mut types;
-    let text = pointer(rt, t, 0, CHAR);
-    let word = pointer(rt, t, 1, CHAR);
-    let line = pointer(rt, t, 2, CHAR);
-    let both = structure(rt, alloc, t, 0, &[text, word]);
-    let pair = structure(rt, alloc, t, 1, &[INT, text]);
-    let three = array(rt, t, pair, 3);
-    expect_pairs(
-        rt,
-        alloc,
-        t,
-        both,
-        line,
-        &[(0, 2), (1, 2), (0, 0), (0, 1), (1, 0), (1, 1), (2, 2)],
-    );
-    expect_pairs(
-        rt,
-        alloc,
-        t,
-        line,
-        both,
-        &[(2, 0), (2, 1), (0, 0), (0, 1), (1, 0), (1, 1), (2, 2)],
-    );
-    expect_pairs(rt, alloc, t, three, pair, &[(0, 0)]);
-    let turned = structure(rt, alloc, t, 2, &[word, text]);
-    let four = array(rt, t, both, 2);
-    expect_pairs(rt, alloc, t, both, turned, &[(0, 1), (1, 0)]);
-    expect_pairs(
-        rt,
-        alloc,
-        t,
-        four,
-        turned,
-        &[(0, 1), (1, 0), (0, 0), (1, 1)],
-    );
-    Ok(())
-}
-
-#[test]
-fn pointers_of_functions(rt: HostRuntime) -> Result<(), TypeFault> {
-    let rt = &rt;
-    let alloc = rt.alloc();
-    let mut types = Types::new(alloc)?;
-    let t = &mut types;
-    let number = pointer(rt, t, 0, INT);
-    let whole = pointer(rt, t, 1, UNSIGNED);
-    let text = pointer(rt, t, 2, CHAR);
-    let of_number = function(rt, alloc, t, number);
-    let of_whole = function(rt, alloc, t, whole);
-    let of_text = function(rt, alloc, t, text);
-    let of_int = function(rt, alloc, t, INT);
-    expect_pairs(rt, alloc, t, of_number, of_whole, &[(0, 1)]);
-    expect_pairs(rt, alloc, t, of_number, of_text, &[]);
-    expect_pairs(rt, alloc, t, of_int, of_int, &[]);
-    let call = pointer(rt, t, 3, of_number);
-    let again = pointer(rt, t, 4, of_whole);
-    expect_pairs(rt, alloc, t, call, again, &[(3, 4), (0, 1)]);
-    Ok(())
-}
-
-#[test]
-fn pointers_of_unions(rt: HostRuntime) -> Result<(), TypeFault> {
-    let rt = &rt;
-    let alloc = rt.alloc();
-    let mut types = Types::new(alloc)?;
-    let t = &mut types;
-    let number = pointer(rt, t, 0, INT);
-    let whole = pointer(rt, t, 1, INT);
-    let mixed = t.add(TypeShape::Union(0))?;
-    define(rt, alloc, t, mixed, &[INT, number])?;
-    let held = structure(rt, alloc, t, 1, &[mixed, number]);
-    let other = structure(rt, alloc, t, 2, &[mixed, whole]);
-    expect_pairs(rt, alloc, t, mixed, mixed, &[]);
-    expect_pairs(rt, alloc, t, held, other, &[(0, 1)]);
-    let long = structure(rt, alloc, t, 3, &[INT, number]);
-    let short = structure(rt, alloc, t, 4, &[INT]);
-    let nested = t.add(TypeShape::Union(5))?;
-    define(rt, alloc, t, nested, &[short, long])?;
-    let apart = structure(rt, alloc, t, 6, &[INT, whole]);
-    expect_pairs(rt, alloc, t, nested, apart, &[(0, 1)]);
-    Ok(())
-}
-
-/// Large types are classed quickly.
-#[test]
-fn large_types(rt: HostRuntime) -> Result<(), TypeFault> {
-    let rt = &rt;
-    let alloc = rt.alloc();
-    let mut types = Types::new(alloc)?;
-    let t = &mut types;
-    let text = pointer(rt, t, 0, CHAR);
-    let pair = structure(rt, alloc, t, 0, &[INT, text]);
-    let bytes = array(rt, t, CHAR, million(1));
-    let longs = array(rt, t, LONG, million(1) / 8);
-    let pairs = array(rt, t, pair, million(1) / 16);
-    let fewer = array(rt, t, pair, (million(1) / 16).saturating_sub(1));
-    expect(rt, alloc, t, bytes, longs, FlowClass::Equal);
-    expect(rt, alloc, t, bytes, CHAR, FlowClass::UpTile);
-    expect(rt, alloc, t, pairs, fewer, FlowClass::UpTile);
-    expect(rt, alloc, t, pairs, bytes, FlowClass::Bad);
-    Ok(())
-}
-
-/// Two types in turn.
+/// The named types in turn, so many times.
 fn in_turn(
     rt: &impl Abort,
     alloc: Global,
-    first: TypeId,
-    second: TypeId,
-    count: usize,
+    names: &[(&'static str, TypeId)],
+    members: &str,
+    times: usize,
 ) -> Vec<TypeId> {
-    let mut members = Vec::new(alloc);
-    for _pair in 0..count {
-        members.push(first).ok().expect(rt, "memory");
-        members.push(second).ok().expect(rt, "memory");
+    let mut list = Vec::new(alloc);
+    for _turn in 0..times {
+        for name in members.split(' ') {
+            list.push(named(rt, names, name)).ok().expect(rt, "memory");
+        }
     }
-    members
-}
-
-/// Structs of a thousand members, which are one pair again and again.
-#[test]
-fn large_structs(rt: HostRuntime) -> Result<(), TypeFault> {
-    let rt = &rt;
-    let alloc = rt.alloc();
-    let mut types = Types::new(alloc)?;
-    let t = &mut types;
-    let text = pointer(rt, t, 0, CHAR);
-    let word = pointer(rt, t, 1, CHAR);
-    let members = in_turn(rt, alloc, INT, text, 500);
-    let first = structure(rt, alloc, t, 0, &members);
-    let other = in_turn(rt, alloc, INT, word, 500);
-    let second = structure(rt, alloc, t, 1, &other);
-    let fewer = in_turn(rt, alloc, INT, text, 499);
-    let third = structure(rt, alloc, t, 2, &fewer);
-    expect(rt, alloc, t, first, second, FlowClass::Equal);
-    expect(rt, alloc, t, first, third, FlowClass::UpTile);
-    expect(rt, alloc, t, third, second, FlowClass::DownTile);
-    Ok(())
+    list
 }
 
 /// Pointers to `char`, with as many nodes from `first` on.
@@ -527,59 +397,148 @@ fn pointers(
     list
 }
 
-/// How many pairs of nodes there are in a flow.
-fn count_pairs(rt: &impl Abort, alloc: Global, types: &Types, from: TypeId, to: TypeId) -> usize {
-    assert!(rt; from.0 < types.count() && to.0 < types.count());
+/// The members that a row gives its type.
+fn members_of(
+    rt: &impl Abort,
+    alloc: Global,
+    types: &mut Types,
+    names: &[(&'static str, TypeId)],
+    made: &Made,
+) -> Vec<TypeId> {
+    match *made {
+        Made::Struct(members) | Made::Union(members) | Made::Completed(members) => {
+            in_turn(rt, alloc, names, members, 1)
+        }
+        Made::Turns(members, times) => in_turn(rt, alloc, names, members, times),
+        Made::Texts(first) => pointers(rt, alloc, types, first, 1000),
+        _ => Vec::new(alloc),
+    }
+}
+
+/// The type of a row, before it gets members.
+fn begun(
+    rt: &impl Abort,
+    alloc: Global,
+    types: &mut Types,
+    names: &[(&'static str, TypeId)],
+    name: &str,
+    made: &Made,
+) -> TypeId {
+    let number = types.count();
+    match *made {
+        Made::Basic(basic) => TypeId(basic),
+        Made::Pointer(node, to) => pointer(rt, types, node, named(rt, names, to)),
+        Made::Array(element, count) => array(rt, types, named(rt, names, element), count),
+        Made::Function(parameter) => function(rt, alloc, types, named(rt, names, parameter)),
+        Made::Completed(_) => named(rt, names, name),
+        Made::Union(_) => types.add(TypeShape::Union(number)).expect(rt, "a union"),
+        _ => types.add(TypeShape::Struct(number)).expect(rt, "a struct"),
+    }
+}
+
+/// The types of rows, with their names.
+fn make(
+    rt: &impl Abort,
+    alloc: Global,
+    types: &mut Types,
+    rows: &[(&'static str, Made)],
+) -> Vec<(&'static str, TypeId)> {
+    let mut names = Vec::new(alloc);
+    for (name, made) in rows {
+        let members = members_of(rt, alloc, types, &names, made);
+        let t = begun(rt, alloc, types, &names, name, made);
+        if !members.is_empty() {
+            define(rt, alloc, types, t, &members).expect(rt, "members");
+        }
+        names.push((*name, t)).ok().expect(rt, "memory");
+    }
+    names
+}
+
+/// Compares the classes of flows.
+fn compare_classes(
+    rt: &impl Abort,
+    alloc: Global,
+    types: &Types,
+    names: &[(&'static str, TypeId)],
+    rows: &[(&'static str, &'static str, FlowClass)],
+) -> Result<(), NoMemory> {
+    let known = Phys::new(alloc).over(types)?;
+    for (from, to, class) in rows {
+        let source = named(rt, names, from);
+        let target = named(rt, names, to);
+        assert!(rt; source.0 < types.count() && target.0 < types.count());
+        let found = known.class(source, target).expect(rt, "memory");
+        assert_eq!(rt; found, *class, "from {} to {}", *from, *to);
+    }
+    Ok(())
+}
+
+/// Compares the nodes of the pointers that correspond in flows, in any order.
+fn compare_pairs(
+    rt: &impl Abort,
+    alloc: Global,
+    types: &Types,
+    names: &[(&'static str, TypeId)],
+    rows: &[(&'static str, &'static str, usize, &'static [(u32, u32)])],
+) -> Result<(), NoMemory> {
+    let known = Phys::new(alloc).over(types)?;
+    for (from, to, count, nodes) in rows {
+        let source = named(rt, names, from);
+        let target = named(rt, names, to);
+        assert!(rt; source.0 < types.count() && target.0 < types.count());
+        let pairs = known.pairs(source, target).expect(rt, "memory");
+        assert_eq!(rt; pairs.len(), *count, "from {} to {}", *from, *to);
+        for (a, b) in *nodes {
+            let pair = (NodeId(*a), NodeId(*b));
+            assert!(rt;
+                pairs.contains(&pair),
+                "from {} to {}: {} and {}",
+                *from,
+                *to,
+                *a,
+                *b
+            );
+        }
+    }
+    Ok(())
+}
+
+/// Makes the types of rows, and compares what flows between them.
+fn compare(
+    rt: &impl Abort,
+    alloc: Global,
+    rows: &[(&'static str, Made)],
+    classes: &[(&'static str, &'static str, FlowClass)],
+    pairs: &[(&'static str, &'static str, usize, &'static [(u32, u32)])],
+) -> Result<(), TypeFault> {
+    let mut types = Types::new(alloc)?;
+    let names = make(rt, alloc, &mut types, rows);
+    compare_classes(rt, alloc, &types, &names, classes)?;
+    compare_pairs(rt, alloc, &types, &names, pairs)?;
+    Ok(())
+}
+
+#[test]
+fn small_types(rt: HostRuntime) -> Result<(), TypeFault> {
+    compare(&rt, rt.alloc(), &TYPES, &CLASSES, &PAIRS)
+}
+
+/// Large types are classed quickly.
+#[test]
+fn large_types(rt: HostRuntime) -> Result<(), TypeFault> {
+    compare(&rt, rt.alloc(), &LARGE_TYPES, &LARGE_CLASSES, &LARGE_PAIRS)
+}
+
+/// A question is asked alone.
+#[test]
+fn one_question(rt: HostRuntime) -> Result<(), TypeFault> {
+    let rt = &rt;
+    let alloc = rt.alloc();
+    let types = Types::new(alloc)?;
+    assert!(rt; INT.0 < types.count() && CHAR.0 < types.count());
     let mut phys = Phys::new(alloc);
-    let pairs = phys.pairs(types, from, to).expect(rt, "memory");
-    pairs.len()
-}
-
-/// The corresponding pointers of structs of a thousand members, each with a node of its own.
-#[test]
-fn pointers_of_large_structs(rt: HostRuntime) -> Result<(), TypeFault> {
-    let rt = &rt;
-    let alloc = rt.alloc();
-    let mut types = Types::new(alloc)?;
-    let t = &mut types;
-    let texts = pointers(rt, alloc, t, 0, 1000);
-    let words = pointers(rt, alloc, t, 1000, 1000);
-    let first = structure(rt, alloc, t, 0, &texts);
-    let second = structure(rt, alloc, t, 1, &words);
-    let three = array(rt, t, first, 3);
-    assert_eq!(rt; count_pairs(rt, alloc, t, first, second), 1000);
-    assert_eq!(rt; count_pairs(rt, alloc, t, three, second), 3000);
-    assert_eq!(rt; count_pairs(rt, alloc, t, first, three), 1000);
+    assert_eq!(rt; phys.class(&types, INT, CHAR)?, FlowClass::UpTile);
+    assert!(rt; phys.pairs(&types, INT, CHAR)?.is_empty());
     Ok(())
-}
-
-/// The corresponding pointers of arrays of a million bytes.
-#[test]
-fn pointers_of_large_arrays(rt: HostRuntime) -> Result<(), TypeFault> {
-    let rt = &rt;
-    let alloc = rt.alloc();
-    let mut types = Types::new(alloc)?;
-    let t = &mut types;
-    let text = pointer(rt, t, 0, CHAR);
-    let word = pointer(rt, t, 1, CHAR);
-    let pair = structure(rt, alloc, t, 0, &[INT, text]);
-    let other = structure(rt, alloc, t, 1, &[INT, word]);
-    let bytes = array(rt, t, CHAR, million(1));
-    let pairs = array(rt, t, pair, million(1) / 16);
-    let others = array(rt, t, other, million(1) / 16);
-    let half = array(rt, t, other, million(1) / 32);
-    let texts = array(rt, t, text, million(1) / 8);
-    expect_pairs(rt, alloc, t, bytes, CHAR, &[]);
-    expect_pairs(rt, alloc, t, pairs, others, &[(0, 1)]);
-    expect_pairs(rt, alloc, t, pairs, other, &[(0, 1), (0, 0), (1, 1)]);
-    expect_pairs(rt, alloc, t, pairs, half, &[(0, 1), (0, 0), (1, 1)]);
-    expect_pairs(rt, alloc, t, texts, word, &[(0, 1), (0, 0), (1, 1)]);
-    Ok(())
-}
-
-/// As many millions.
-fn million(count: u64) -> u64
-    requires { count ≡ 1 }
-{
-    count * 1_000_000
 }

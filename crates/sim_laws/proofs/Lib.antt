@@ -16,6 +16,8 @@ pub mod Parts
 pub mod Clearing
 pub mod Copying
 pub mod KeptCells
+pub mod BlocksMade
+pub mod BlocksGiven
 pub mod Allocating
 pub mod Storing
 pub mod Aiming

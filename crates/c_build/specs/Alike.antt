@@ -36,6 +36,6 @@ RunsAlikeIfPlainKinds t p s c = (is : IsCuringOf p s c) → ArePlainKinds p.node
 abbrev pub BuiltProgramsRunAlike : Type 0
 BuiltProgramsRunAlike = (text : List ℕ) (t : Typed) (p : Program) (s : Solved) (c : Parts) → IsBuilt text t p s c → RunsAlikeIfPlain t p s c
 
--- and of every text whose pointers are all SAFE or SEQ
+-- and of every text whose nodes, pointers and homes, are all SAFE or SEQ
 abbrev pub PlainKindsRunAlike : Type 0
 PlainKindsRunAlike = (text : List ℕ) (t : Typed) (p : Program) (s : Solved) (c : Parts) → IsBuilt text t p s c → RunsAlikeIfPlainKinds t p s c

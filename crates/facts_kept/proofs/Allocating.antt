@@ -20,7 +20,7 @@ use Rattle.src_mem.specs.State.{State, Setting}
 use Rattle.src_mem.specs.Checks.{conditions_of_allocation, null_or_in_bounds}
 use Rattle.src_mem.specs.Primitives.{heap_limit, block_pointer, with_block, allocate}
 use Rattle.src_mem.specs.Outlines.{Outline, Life, outline, life, outlines_of, lives_of, AreOutlines, AreNoDeeper}
-use Rattle.src_mem.specs.Facts.{IsMadeFor, IsValueOf, IsHeldIn, IsSoundObject, AreSound, IsSoundAt}
+use Rattle.src_mem.specs.Facts.{IsBlockFor, IsValueOf, IsHeldIn, IsSoundObject, AreSound, IsSoundAt}
 use Rattle.src_mem.specs.Laws.{Gives}
 use Rattle.src_mem.proofs.Outlines.{get-mapped}
 use Rattle.facts_kept.specs.Kept.{AllHold, GivesBlock, MakesBlocks}
@@ -54,7 +54,7 @@ module _ (w : Setting) (sound : IsWellFormed w.table) (sites : List Site) where
       (λ c. let z = (complete-some w.table sound t c.0).1 in omega (arith, z, l)) h
 
   -- an empty block too was made for a pointer type
-  block-made : (node : NodeId) (t : TypeId) → MakesBlocks w node t → IsComplete w.table t → IsMadeFor w node t
+  block-made : (node : NodeId) (t : TypeId) → MakesBlocks w node t → IsComplete w.table t → IsBlockFor w node t
   block-made node t h complete = ⊎_elim
       (λ e. absurd (let z : length (cells_of w.table t) ≡ 0 = ap length (void-empty t e) in let s = (complete-some w.table sound t complete).0 in omega (arith, z, s)))
       (λ c. record { pointer = c.1.0; to = t; is = c.1.1; agree = λ i. agree-own w sound (repeated_cell (cells_of w.table t) i) }) h

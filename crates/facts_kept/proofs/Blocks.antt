@@ -21,7 +21,7 @@ use Rattle.src_mem.specs.Pointers.{Location}
 use Rattle.src_mem.specs.Memory.{block_cells}
 use Rattle.src_mem.specs.State.{Setting}
 use Rattle.c_types.specs.Flows.{CellsAgree}
-use Rattle.src_mem.specs.Facts.{HoldType, IsMadeFor, IsSameShifted, sequence_least, sequence_most, IsLocated, IsTyped, StandsAt, IsSafeAt, IsTypedAt, IsSequenceAt, IsWildAt, IsTypedPlace}
+use Rattle.src_mem.specs.Facts.{HoldType, IsBlockFor, IsSameShifted, sequence_least, sequence_most, IsLocated, IsTyped, StandsAt, IsSafeAt, IsTypedAt, IsSequenceAt, IsWildAt, IsTypedPlace}
 use Rattle.c_types.proofs.OrderedPointers.{get_front, get_back}
 use Rattle.src_mem.specs.Outlines.{Outline}
 use Rattle.facts_kept.proofs.Agree.{agree-own, get-taken}
@@ -232,7 +232,7 @@ module _ (w : Setting) (sound : IsWellFormed w.table) where
     block-place f h = record { object = o; at = 0; located = located; typed = typed f; stands = stands f; holds = hold f h }
 
     -- SEQ, to a complete type that it was made for, or to void
-    pub block-seq : IsFilled t o → ((IsComplete w.table t → Prim.⊥) → cells_of w.table t ≡ []) → (IsComplete w.table t → IsMadeFor w o.node t) → IsSequenceAt w outlines t here
+    pub block-seq : IsFilled t o → ((IsComplete w.table t → Prim.⊥) → cells_of w.table t ≡ []) → (IsComplete w.table t → IsBlockFor w o.node t) → IsSequenceAt w outlines t here
     block-seq f void made_for = record {
       object = o;
       located = located;

@@ -28,7 +28,7 @@ use Rattle.src_mem.specs.Memory.{Memory}
 use Rattle.src_mem.specs.Checks.{Conversion, conditions_of_conversion, conditions_by_kinds, null_or_in_bounds, downcast}
 use Rattle.src_mem.specs.Primitives.{is_made_anew, made_at}
 use Rattle.src_mem.specs.State.{Setting}
-use Rattle.src_mem.specs.Facts.{HoldType, RepeatAlike, IsMadeFor, IsSameShifted, IsSafeAt, IsTypedAt, IsSequenceAt, IsFunctionOf, IsValueOf, IsMade}
+use Rattle.src_mem.specs.Facts.{HoldType, RepeatAlike, IsBlockFor, IsSameShifted, IsSafeAt, IsTypedAt, IsSequenceAt, IsFunctionOf, IsValueOf, IsMade}
 use Rattle.facts_kept.specs.Kept.{IsFlow, AllHold}
 use Rattle.facts_kept.proofs.Agree.{agree-turned, agree-twice, first, second, negated}
 use Rattle.facts_kept.proofs.Flow.{Tells, class-tells, up-told, tiled-told, equal-data, begins-data, covers-up, by-place, rep-there, tile-some, tile-in-class}
@@ -213,7 +213,7 @@ module _ (w : Setting) (sound : IsWellFormed w.table) (outlines : List Outline) 
         (x.0, x.1, agree-twice w sound x.0 (repeated_cell (cells_of w.table t) i) (repeated_cell (cells_of w.table u) i) x.2 (b i));
   }
 
-  pub made-alike : (t u : TypeId) → Alike t u → (node : NodeId) → IsMadeFor w node t → IsMadeFor w node u
+  pub made-alike : (t u : TypeId) → Alike t u → (node : NodeId) → IsBlockFor w node t → IsBlockFor w node u
   unfolding Alike
   made-alike t u b node h = record {
     pointer = h.pointer;

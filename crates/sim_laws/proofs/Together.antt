@@ -14,7 +14,7 @@ use Rattle.src_mem.specs.Pointers.{Location}
 use Rattle.src_mem.specs.Memory.{Planned}
 use Rattle.src_mem.specs.State.{Setting}
 use Rattle.src_mem.specs.Outlines.{Outline}
-use Rattle.src_mem.specs.Facts.{IsSequenceAt, IsMadeFor}
+use Rattle.src_mem.specs.Facts.{IsSequenceAt, IsBlockFor}
 use Rattle.facts_kept.proofs.Agree.{agree-turned, agree-twice}
 use Rattle.facts_kept.proofs.Complete.{complete-some, complete-data}
 use Rattle.facts_kept.proofs.Flow.{rep-there}
@@ -93,9 +93,9 @@ module _ (w : Setting) (sound : IsWellFormed w.table) where
           (subst (λ (c : Cell). CellsAgree w.table w.kind c (repeated_cell (cells_of w.table u) i)) same y.2)
 
       empty : k.part.low ≡ k.part.high → CellsAgree w.table w.kind (repeated_cell (cells_of w.table t) i) (repeated_cell (cells_of w.table u) i)
-      empty none = of (v.blank complete none) (subst (λ (o : Outline). IsMadeFor w o.node u) (sym one) (z.blank whole (sym low ∙ none ∙ high)))
+      empty none = of (v.blank complete none) (subst (λ (o : Outline). IsBlockFor w o.node u) (sym one) (z.blank whole (sym low ∙ none ∙ high)))
         where
-          of : IsMadeFor w v.object.node t → IsMadeFor w v.object.node u → CellsAgree w.table w.kind (repeated_cell (cells_of w.table t) i) (repeated_cell (cells_of w.table u) i)
+          of : IsBlockFor w v.object.node t → IsBlockFor w v.object.node u → CellsAgree w.table w.kind (repeated_cell (cells_of w.table t) i) (repeated_cell (cells_of w.table u) i)
           of a b =
               let same : a.to ≡ b.to = told.pointees v.object.node a.to b.to (told.pointers a.pointer v.object.node a.to a.is) (told.pointers b.pointer v.object.node b.to b.is) in
               agree-twice w sound (repeated_cell (cells_of w.table t) i) (repeated_cell (cells_of w.table b.to) i) (repeated_cell (cells_of w.table u) i)

@@ -17,7 +17,7 @@ abbrev pub image_by : Kind → Ground → Outline → Access → ByteRange
 image_by Wild g o a = tagged_image (address g a.object) a.offset a.size
 image_by kind g o a = cured_image g.kind o.cells (address g a.object) a.offset a.size
 
--- the access falls into an object that is there, and the range is its image
+-- the object of the access is there, and the range is its image; that the access lies in it is a law of the source's runs
 pub record IsImage (g : Ground) (a : Access) (r : Range) : Type 0 where
   pub object : Outline
   pub found : slice_get g.outlines a.object ≡ Some object

@@ -31,18 +31,19 @@ pub record HoldType (w : Setting) (cells : List Cell) (at high : ℕ) (t : TypeI
   pub agree : (i : ℕ) (d : Cell) → slice_get (cells_of w.table t) i ≡ Some d
       → (c : Cell) × (slice_get cells (at + i) ≡ Some c) × CellsAgree w.table w.kind c d
 
--- the cells from `low` up to `high` begin the endless repetition of a type
+-- the cells from `low` up to `high` begin the endless repetition of a type: no fact of a pointer, but what its shrinking asks of two types
 pub record RepeatType (w : Setting) (cells : List Cell) (low high : ℕ) (t : TypeId) : Type 0 where
   pub agree : (i : ℕ) → low + i < high
       → (c : Cell) × (slice_get cells (low + i) ≡ Some c) × CellsAgree w.table w.kind c (repeated_cell (cells_of w.table t) i)
 
--- the cells from `low` up to `high`, again and again, are the endless repetition of a type
+-- the cells from `low` up to `high`, again and again, are the endless repetition of a type. Of an empty part that says nothing: what fills it is
+-- told by the pointer type of its allocation, below.
 pub record RepeatAlike (w : Setting) (cells : List Cell) (low high : ℕ) (t : TypeId) : Type 0 where
   pub agree : low < high → (i : ℕ)
       → (c : Cell) × (slice_get cells (low + i % (high - low)) ≡ Some c) × CellsAgree w.table w.kind c (repeated_cell (cells_of w.table t) i)
 
--- the endless repetition of a type is that of what a pointer type with this node points to
-pub record IsMadeFor (w : Setting) (node : NodeId) (t : TypeId) : Type 0 where
+-- a block of an allocation with this node is one for a type: the type's endless repetition is that of what a pointer type with the node points to
+pub record IsBlockFor (w : Setting) (node : NodeId) (t : TypeId) : Type 0 where
   pub pointer : TypeId
   pub to : TypeId
   pub is : HasShape w.table pointer (shape.Pointer node to)
@@ -124,7 +125,7 @@ pub record IsSequenceAt (w : Setting) (outlines : List Outline) (t : TypeId) (l 
   pub least : sequence_least ≤ℤ distance l
   pub most : distance l ≤ℤ sequence_most
   pub filled : IsComplete w.table t → RepeatAlike w object.cells l.part.low l.part.high t
-  pub blank : IsComplete w.table t → l.part.low ≡ l.part.high → IsMadeFor w object.node t
+  pub blank : IsComplete w.table t → l.part.low ≡ l.part.high → IsBlockFor w object.node t
   pub shifted : IsComplete w.table t → IsSameShifted w t (distance l)
   pub unmoved : (IsComplete w.table t → ⊥) → (cells_of w.table t ≡ []) × (distance l ≡ pos 0)
 

@@ -52,7 +52,7 @@ call_within (suc n) w functions f depth arguments = do
   given (slice_get functions f) (λ c. call_body w (call_within n w functions) f depth (c.named arguments) c.defined c.body)
 
 -- How many calls are nested in `main` at most. DEPTH stops the call that would be one more, since `main` has depth 1, so no run
--- ends by this number.
+-- ends by this number where pointers to functions are SAFE or WILD, as in every solution.
 unfoldable pub nested_limit : ℕ
 nested_limit = 1022
 

@@ -11,8 +11,17 @@ use Rattle.c_typing.specs.Walks.{judge_parts}
 use Rattle.c_unit_typing.specs.ParameterScopes.{level_given, parameters_written, scope_of_list}
 use Rattle.c_check_expr.specs.Leaving.{AreLeaving}
 use Rattle.c_check_expr.proofs.LeavingLaws.{first-fails, no-part-leaves, parts-leave}
+use Rattle.c_check_expr.proofs.NestLaws.{nests-behind, nests-nearest}
 use Rattle.c_check_expr.proofs.StayLaws.{no_parts}
 use Rattle.c_check_expr.proofs.walker.Walker.nearest_parts.Goals as goal
+
+pub nearest_part-requires : goal.nearest_part-requires
+nearest_part-requires g c =
+    record { nests = nests-nearest c.in-Some.first.now c.in-Some.rest.now (rw c.in-Some.ensures.cases.0 at c.requires.nests) }
+
+pub parts_behind-requires : goal.parts_behind-requires
+parts_behind-requires g c =
+    record { nests = nests-behind c.in-Some.first.now c.in-Some.rest.now (rw c.in-Some.ensures.cases.0 at c.requires.nests) }
 
 pub returns-in_default-clause-judged : goal.returns-in_default-clause-judged
 returns-in_default-clause-judged g c =

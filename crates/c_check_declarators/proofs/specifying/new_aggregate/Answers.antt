@@ -1,0 +1,10 @@
+use Rattle.c_typing.proofs.GrowingLaws.{aggregate-grows}
+use Rattle.c_check_declarators.proofs.specifying.new_aggregate.Goals as goal
+
+pub returns-in_err-declare_tag_of-clause-grows : goal.returns-in_err-declare_tag_of-clause-grows
+returns-in_err-declare_tag_of-clause-grows c = λ any first h.
+    c.declare_tag_of.ensures.grows _ any first (aggregate-grows _ _ _ c.in_ok-new_aggregate.ensures.counted any first (c.type_with.ensures.grows any first h))
+
+pub returns-in_ok-declare_tag_of-clause-grows : goal.returns-in_ok-declare_tag_of-clause-grows
+returns-in_ok-declare_tag_of-clause-grows c = λ any first h.
+    c.declare_tag_of.ensures.grows _ any first (aggregate-grows _ _ _ c.in_ok-new_aggregate.ensures.counted any first (c.type_with.ensures.grows any first h))

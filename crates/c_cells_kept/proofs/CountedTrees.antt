@@ -19,7 +19,7 @@ use Rattle.c_typing.specs.Adjusting.{derived_by_declared, typedef_place, adjuste
 use Rattle.c_typing.specs.Assignments
 use Rattle.c_typing.specs.Declarators.{Counted, counted, declarator_names, member_names}
 use Rattle.c_typing.specs.Declarators
-use Rattle.c_typing.specs.Declaring.{declarator_name, home_as, stars_with_nodes, sized, declared_makes, member_named, parameter, entered, left}
+use Rattle.c_typing.specs.Declaring.{declarator_name, home_as, stars_with_nodes, sized, declared_makes, member_named, parameter, entered, left, stopped_outside}
 use Rattle.c_typing.specs.Judging.{State, Gives, next, pure}
 use Rattle.c_typing.specs.Operands.{Operand, Value, value}
 use Rattle.c_typing.specs.Operations
@@ -42,7 +42,7 @@ use Rattle.c_cells_kept.proofs.CellsMoved.{stays-refl, two-made, made-as, made-t
 use Rattle.c_cells_kept.proofs.CountedValues.{IsCounted, value-moves, integer-moves, character-moves, literal-moves, name-moves}
 use Rattle.c_cells_kept.proofs.CountedOperators.{paren-moves, after-moves, index-moves, infix-moves, member-moves, pointed-moves}
 use Rattle.c_cells_kept.proofs.CountedAssignments.{assign-moves, choice-moves, comma-moves, cast-moves, size_of_type-moves, call-moves}
-use Rattle.c_typing_laws.proofs.Outcomes.{bind-gives, never-gives}
+use Rattle.c_typing_laws.proofs.Outcomes.{bind-gives, never-gives, outside-gives}
 use Rattle.c_typing_laws.proofs.ValuesTaken.{given-same}
 use Rattle.c_cells_kept.proofs.CountedSteps.{ended-made, enum-made, enumeration-made, enumerator-made, home-made, makes-with, member-made, parameter-made, sized-made, stars-made, tagged-made, typedef-made, valued-made, void_unnamed, word-made}
 use Rattle.c_cells_kept.proofs.CountedOperands.{operand-place, prefix-makes, update-makes, value-makes}
@@ -281,14 +281,14 @@ mutual
   parts-make (tree.AndFunction all paren parameters) at parts s r k h =
       let void = is_void_alone parameters in
       let one = bind-gives (judge_parts at all s) (λ p. λ m. next (entered m)
-      (λ b. λ i. next (judge_parameters void parameters i) (λ list. λ n. next (left at list n) (λ whole. pure (typed.AndFunction p paren whole))))) parts r h in
+      (λ b. λ i. next (stopped_outside (judge_parameters void parameters i)) (λ list. λ n. next (left at list n) (λ whole. pure (typed.AndFunction p paren whole))))) parts r h in
       let known = (parts-judged all at one.0 s one.1 k one.2).goes.known in
       let two = bind-gives (entered one.1)
-      (λ b. λ i. next (judge_parameters void parameters i) (λ list. λ n. next (left at list n) (λ whole. pure (typed.AndFunction one.0 paren whole)))) parts r one.3 in
+      (λ b. λ i. next (stopped_outside (judge_parameters void parameters i)) (λ list. λ n. next (left at list n) (λ whole. pure (typed.AndFunction one.0 paren whole)))) parts r one.3 in
       let inside = entered-judged two.0 one.1 two.1 known two.2 in
       let kept = entered-keeps one.1 one.1 (stays-refl one.1) two.0 two.1 two.2 in
-      let three = bind-gives (judge_parameters void parameters two.1) (λ list. λ n. next (left at list n) (λ whole. pure (typed.AndFunction one.0 paren whole))) parts r two.3 in
-      let made = parameters-make parameters void three.0 two.1 three.1 (void_self parameters) inside.1.known three.2 in
+      let three = bind-gives (stopped_outside (judge_parameters void parameters two.1)) (λ list. λ n. next (left at list n) (λ whole. pure (typed.AndFunction one.0 paren whole))) parts r two.3 in
+      let made = parameters-make parameters void three.0 two.1 three.1 (void_self parameters) inside.1.known (outside-gives (judge_parameters void parameters two.1) three.0 three.1 three.2) in
       let four = bind-gives (left at three.0 three.1) (λ whole. pure (typed.AndFunction one.0 paren whole)) parts r three.3 in
       let out = left-keeps at three.0 three.1 three.1 (stays-refl three.1) four.0 four.1 four.2 in
       let same = left_same at three.0 four.0 three.1 four.1 four.2 in

@@ -15,7 +15,7 @@ use Rattle.c_typing.specs.declared.declared.Tag.{Tag}
 use Rattle.c_typing.specs.declared.naming.Naming.{Naming}
 use Rattle.c_typing.specs.Checking.{checked, taken, value_tests, converted_part, converted_value, checked_value, Constant, constant_as, checked_constant}
 use Rattle.c_typing.specs.Constants.{constant_value}
-use Rattle.c_typing.specs.Declaring.{NotDerived, derived_by, is_function_by, unless_function, form_makes, entered, left}
+use Rattle.c_typing.specs.Declaring.{NotDerived, derived_by, is_function_by, unless_function, form_makes, entered, left, stopped_outside}
 use Rattle.c_typing.specs.Judging.{State, Gives, next, pure}
 use Rattle.c_typing.specs.Operands.{Operand, Value, value, side_of}
 use Rattle.c_typing.specs.Refusals.{is_void_alone}
@@ -31,7 +31,7 @@ use Rattle.c_typing_laws.proofs.JudgedDeclarators.{entered-judged}
 use Rattle.c_typing_laws.proofs.JudgedTrees.{void_self}
 use Rattle.c_typing_laws.proofs.NumberedConstructs.{IsWhole, side-made}
 use Rattle.c_typing_laws.proofs.NumberedTrees.{operand-whole, left_same}
-use Rattle.c_typing_laws.proofs.Outcomes.{bind-gives, unless-gives, gives-value, never-gives}
+use Rattle.c_typing_laws.proofs.Outcomes.{bind-gives, unless-gives, gives-value, never-gives, outside-gives}
 use Rattle.c_typing_laws.proofs.ValuesTaken.{given-same}
 use Rattle.c_cells_kept.specs.Counted.{Moves}
 use Rattle.c_cells_kept.proofs.CellsMoved.{stays-refl, made-as, made-to, made-from, made-none}
@@ -106,11 +106,11 @@ pub prototype-moves : (at : Place) (all : tree.Parameters) (list : TypedParamete
     → Moves (made_by_parameters list) s r
 unfolding judge_prototype
 prototype-moves at all list s r k h =
-    let one = bind-gives (entered s) (λ b. λ m. next (judge_parameters (is_void_alone all) all m) (left at)) list r h in
+    let one = bind-gives (entered s) (λ b. λ m. next (stopped_outside (judge_parameters (is_void_alone all) all m)) (left at)) list r h in
     let inside = entered-judged one.0 s one.1 k one.2 in
     let kept = entered-keeps s s (stays-refl s) one.0 one.1 one.2 in
-    let two = bind-gives (judge_parameters (is_void_alone all) all one.1) (left at) list r one.3 in
-    let made = parameters-make all (is_void_alone all) two.0 one.1 two.1 (void_self all) inside.1.known two.2 in
+    let two = bind-gives (stopped_outside (judge_parameters (is_void_alone all) all one.1)) (left at) list r one.3 in
+    let made = parameters-make all (is_void_alone all) two.0 one.1 two.1 (void_self all) inside.1.known (outside-gives (judge_parameters (is_void_alone all) all one.1) two.0 two.1 two.2) in
     let out = left-keeps at two.0 two.1 two.1 (stays-refl two.1) list r two.3 in
     subst (λ (v : TypedParameters). Moves (made_by_parameters v) s r) (left_same at two.0 list two.1 r two.3)
     (made-to (made_by_parameters two.0) s two.1 r out

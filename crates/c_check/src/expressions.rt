@@ -51,7 +51,7 @@ pub(crate) fn try_condition_or_none(
 #[tactic(auto, unfolding(c_unit_typing::specs::StatementJudging::dropped))]
 pub(crate) fn dropped(
     context: &mut Context,
-    e: &Option<Expr>,
+    e: &Option<Boxed<Expr>>,
 ) -> Result<Option<Boxed<TypedExpr>>, Fault>
     ensures { Answers (option_map typed_expr_view) (judging.dropped (option_map expr_view e.now)
         (state_of context.old)) result (state_of context.new) }
@@ -59,7 +59,7 @@ pub(crate) fn dropped(
     match e {
         None => Ok(None),
         Some(e) => {
-            let v = context.expr(e)?;
+            let v = context.expr(e.get())?;
             Ok(Some(v))
         }
     }
@@ -71,7 +71,7 @@ pub(crate) fn returned(
     context: &mut Context,
     at: Place,
     to: TypeId,
-    e: &Option<Expr>,
+    e: &Option<Boxed<Expr>>,
 ) -> Result<Option<Boxed<TypedExpr>>, Fault>
     ensures { Answers (option_map typed_expr_view) (judging.returned at to
         (option_map expr_view e.now) (state_of context.old)) result (state_of context.new) }
@@ -84,7 +84,7 @@ pub(crate) fn returned(
             Ok(None)
         }
         Some(e) => {
-            let v = context.value(to, at, false, e)?;
+            let v = context.value(to, at, false, e.get())?;
             Ok(Some(v))
         }
     }

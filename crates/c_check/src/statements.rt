@@ -1,16 +1,17 @@
 //! Statements (C99 6.8).
 #![tactic(auto)]
 
-ghost use Rattle.std.specs.Prelude.{◌≡◌, IfOk, Some, None, option_map};
+ghost use Rattle.std.specs.Prelude.{◌≡◌, IfOk, Some, None, false, option_map};
 ghost use Rattle.c_tree.specs.Tree as tree;
 ghost use Rattle.c_tree.specs.TypedTree.{TypedBlockItems};
 ghost use Rattle.c_tree.specs.Views.{expr_view};
 ghost use Rattle.c_tree.specs.StatementViews.{statement_view, block_view, block_item_view, declaration_view};
-ghost use Rattle.c_tree.specs.TypedStatementViews.{typed_statement_view, typed_block_view, typed_block_item_view};
+ghost use Rattle.c_tree.specs.TypedStatementViews.{typed_statement_view, typed_block_view, typed_block_item_view, typed_declaration_view};
 ghost use Rattle.c_check.specs.Labels.{HoldsLabels};
 ghost use Rattle.c_check.specs.CodeViews.{around_view};
 ghost use Rattle.c_check_context.specs.ContextViews.{state_of};
 ghost use Rattle.c_unit_typing.specs.UnitJudging.{Answers, Gives, UnitState};
+ghost use Rattle.c_unit_typing.specs.DeclarationJudging.{judge_declaration};
 ghost use Rattle.c_unit_typing.specs.StatementJudging as judging;
 
 use crate::around::Around;
@@ -22,27 +23,30 @@ use crate::labels::{Labels, case_label};
 use c_check_context::Context;
 use c_check_declarations::declaration;
 use c_tree::{
-    BlockItem, Boxed, Declaration, Expr, Items, Statement, TypedBlockItem, TypedExpr,
+    BlockItem, Boxed, Declaration, Expr, Items, Statement, TypedBlockItem, TypedDeclaration,
     TypedStatement,
 };
 use c_typing::stops::refusal;
 use cc_base::{Fault, NoMemory, Place, Rule, TypeId};
-
-/// What may be left out, off the heap.
-fn unboxed(e: Option<Boxed<TypedExpr>>) -> Option<TypedExpr>
-    ensures { result ≡ e }
-{
-    match e {
-        Some(e) => Some(e.into_inner()),
-        None => None,
-    }
-}
 
 /// A statement on the heap.
 fn boxed(context: &Context, one: TypedStatement) -> Result<Boxed<TypedStatement>, NoMemory>
     ensures { IfOk result (λ made. made ≡ one) }
 {
     Ok(Boxed::new(context.scope.alloc(), one)?)
+}
+
+/// A declaration of a block, on the heap.
+fn boxed_declaration(
+    context: &mut Context,
+    d: &Declaration,
+) -> Result<Boxed<TypedDeclaration>, Fault>
+    ensures { Answers typed_declaration_view
+        (judge_declaration false (declaration_view d.now) (state_of context.old))
+        result (state_of context.new) }
+{
+    let made = declaration(context, false, d)?;
+    Ok(Boxed::new(context.scope.alloc(), made)?)
 }
 
 /// `break`, where it may stand.
@@ -83,14 +87,14 @@ fn return_from(
     context: &mut Context,
     around: Around,
     at: Place,
-    e: &Option<Expr>,
+    e: &Option<Boxed<Expr>>,
 ) -> Result<Boxed<TypedStatement>, Fault>
     ensures { Answers typed_statement_view (judging.judge_statement (around_view around)
         (tree.Return at (option_map expr_view e.now)) (state_of context.old)) result
         (state_of context.new) }
 {
     let v = returned(context, at, around.result, e)?;
-    Ok(boxed(context, TypedStatement::Return(at, unboxed(v)))?)
+    Ok(boxed(context, TypedStatement::Return(at, v))?)
 }
 
 /// A block.
@@ -151,10 +155,7 @@ fn if_alone(
     let one = substatement(context, around, at, s)?;
     try_condition(context, at, test.get())?;
     leave(context, at)?;
-    Ok(boxed(
-        context,
-        TypedStatement::If(at, paren, test.into_inner(), one),
-    )?)
+    Ok(boxed(context, TypedStatement::If(at, paren, test, one))?)
 }
 
 /// The block of a `switch` on a value of the type.
@@ -200,10 +201,7 @@ fn switch(
     let list = switch_block(context, around.in_a_switch(), on.get().ty(), brace, items)?;
     try_integer(context, at, from)?;
     leave(context, at)?;
-    Ok(boxed(
-        context,
-        TypedStatement::Switch(at, paren, on.into_inner(), brace, list),
-    )?)
+    Ok(boxed(context, TypedStatement::Switch(at, paren, on, brace, list))?)
 }
 
 #[cycle(statements)]
@@ -225,10 +223,7 @@ fn while_loop(
     let one = substatement(context, around.in_a_loop(), at, s)?;
     try_condition(context, at, test.get())?;
     leave(context, at)?;
-    Ok(boxed(
-        context,
-        TypedStatement::While(at, paren, test.into_inner(), one),
-    )?)
+    Ok(boxed(context, TypedStatement::While(at, paren, test, one))?)
 }
 
 #[cycle(statements)]
@@ -250,10 +245,7 @@ fn do_while(
     let test = context.expr(c)?;
     try_condition(context, at, test.get())?;
     leave(context, at)?;
-    Ok(boxed(
-        context,
-        TypedStatement::DoWhile(one, at, paren, test.into_inner()),
-    )?)
+    Ok(boxed(context, TypedStatement::DoWhile(one, at, paren, test))?)
 }
 
 /// `for` that begins with an expression or with none (C99 6.8.5.3).
@@ -265,9 +257,9 @@ fn for_loop(
     s: &Statement,
     at: Place,
     paren: Place,
-    first: &Option<Expr>,
-    test: &Option<Expr>,
-    step: &Option<Expr>,
+    first: &Option<Boxed<Expr>>,
+    test: &Option<Boxed<Expr>>,
+    step: &Option<Boxed<Expr>>,
 ) -> Result<Boxed<TypedStatement>, Fault>
     ensures { Answers typed_statement_view (judging.judge_statement (around_view around)
         (tree.For at paren (option_map expr_view first.now) (option_map expr_view test.now)
@@ -283,7 +275,7 @@ fn for_loop(
     leave(context, at)?;
     Ok(boxed(
         context,
-        TypedStatement::For(at, paren, unboxed(before), unboxed(c), unboxed(after), one),
+        TypedStatement::For(at, paren, before, c, after, one),
     )?)
 }
 
@@ -297,8 +289,8 @@ fn for_declaration(
     at: Place,
     paren: Place,
     d: &Declaration,
-    test: &Option<Expr>,
-    step: &Option<Expr>,
+    test: &Option<Boxed<Expr>>,
+    step: &Option<Boxed<Expr>>,
 ) -> Result<Boxed<TypedStatement>, Fault>
     ensures { Answers typed_statement_view (judging.judge_statement (around_view around)
         (tree.ForDeclaration at paren (declaration_view d.now) (option_map expr_view test.now)
@@ -306,7 +298,7 @@ fn for_declaration(
         (state_of context.new) }
 {
     enter(context)?;
-    let before = declaration(context, false, d)?;
+    let before = boxed_declaration(context, d)?;
     let c = dropped(context, test)?;
     let after = dropped(context, step)?;
     let one = substatement(context, around.in_a_loop(), at, s)?;
@@ -314,7 +306,7 @@ fn for_declaration(
     leave(context, at)?;
     Ok(boxed(
         context,
-        TypedStatement::ForDeclaration(at, paren, before, unboxed(c), unboxed(after), one),
+        TypedStatement::ForDeclaration(at, paren, before, c, after, one),
     )?)
 }
 
@@ -336,10 +328,10 @@ fn statement(
             Ok(boxed(context, TypedStatement::Express(v.into_inner()))?)
         }
         Statement::Empty => Ok(boxed(context, TypedStatement::Empty)?),
-        Statement::If(at, paren, c, s) => if_alone(context, around, s.get(), *at, *paren, c),
+        Statement::If(at, paren, c, s) => if_alone(context, around, s.get(), *at, *paren, c.get()),
         Statement::IfElse(at, paren, c, s, r) => {
             enter(context)?;
-            let test = context.expr(c)?;
+            let test = context.expr(c.get())?;
             let one = substatement(context, around, *at, s.get())?;
             let other = substatement(context, around, *at, r.get())?;
             let condition = test.get();
@@ -347,22 +339,44 @@ fn statement(
             leave(context, *at)?;
             Ok(boxed(
                 context,
-                TypedStatement::IfElse(*at, *paren, test.into_inner(), one, other),
+                TypedStatement::IfElse(*at, *paren, test, one, other),
             )?)
         }
         Statement::Switch(at, paren, e, brace, items) => {
-            switch(context, around, items.as_slice(), *at, *paren, e, *brace)
+            switch(
+                context,
+                around,
+                items.as_slice(),
+                *at,
+                *paren,
+                e.get(),
+                *brace,
+            )
         }
         Statement::Break(at) => break_from(context, around, *at),
         Statement::Continue(at) => continue_in(context, around, *at),
         Statement::Return(at, e) => return_from(context, around, *at, e),
-        Statement::While(at, paren, c, s) => while_loop(context, around, s.get(), *at, *paren, c),
-        Statement::DoWhile(s, at, paren, c) => do_while(context, around, s.get(), *at, *paren, c),
+        Statement::While(at, paren, c, s) => while_loop(
+            context,
+            around,
+            s.get(),
+            *at,
+            *paren,
+            c.get(),
+        ),
+        Statement::DoWhile(s, at, paren, c) => do_while(
+            context,
+            around,
+            s.get(),
+            *at,
+            *paren,
+            c.get(),
+        ),
         Statement::For(at, paren, first, test, step, s) => {
             for_loop(context, around, s.get(), *at, *paren, first, test, step)
         }
         Statement::ForDeclaration(at, paren, d, test, step, s) => {
-            for_declaration(context, around, s.get(), *at, *paren, d, test, step)
+            for_declaration(context, around, s.get(), *at, *paren, d.get(), test, step)
         }
     }
 }

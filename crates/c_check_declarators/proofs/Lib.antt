@@ -1,3 +1,4 @@
 pub mod TagLaws
 pub mod PlaceLaws
 pub mod PartLaws
+pub mod GrowthLaws

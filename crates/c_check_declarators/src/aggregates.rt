@@ -9,6 +9,7 @@ ghost use Rattle.c_tree.specs.TypedTree.{NoMember};
 ghost use Rattle.c_tree.specs.TypedViews.{typed_declarator_view, typed_members_view, typed_member_declarators_of};
 ghost use Rattle.c_tree.specs.Views.{added};
 ghost use Rattle.c_typing.specs.Declarators.{declarator_types, member_names, member_types};
+ghost use Rattle.c_typing.specs.Growing.{Grows};
 ghost use Rattle.c_typing.specs.Judging.{Answers, known};
 ghost use Rattle.c_typing.specs.Refusals.{is_empty_row, one_named, tag_place};
 ghost use Rattle.c_typing.specs.Rules.{number_of_shape};
@@ -72,8 +73,9 @@ pub fn begun(
     at: Place,
     name: Option<&Identifier>,
 ) -> Result<Option<TypeId>, Fault>
-    ensures { Answers (λ t. t) (specifying.begun which at (option_copied name.entry)
+    ensures answers { Answers (λ t. t) (specifying.begun which at (option_copied name.entry)
         (known types.old scope.old)) result (known types.new scope.new) }
+    ensures grows { Grows (known types.old scope.old) (known types.new scope.new) }
 {
     let found = tag_named_here(scope, name);
     if is_taken_tag(scope, types, which, found) {
@@ -149,8 +151,9 @@ fn defined(
     t: TypeId,
     members: Vec<TypeId>,
 ) -> Result<TypeId, Fault>
-    ensures { Answers (λ t. t) (specifying.defined at t members.items (known types.old scope.now))
-        result (known types.new scope.now) }
+    ensures answers { Answers (λ t. t) (specifying.defined at t members.items
+        (known types.old scope.now)) result (known types.new scope.now) }
+    ensures grows { Grows (known types.old scope.now) (known types.new scope.now) }
 {
     if !is_definable(types, t, &members) {
         return Err(no_room(at));
@@ -163,9 +166,11 @@ fn defined(
 }
 
 /// From here on the struct or union is complete.
+#[tactic(auto, using(c_typing::proofs::GrowingLaws::grown))]
 fn complete(scope: &mut Scope, types: &Types, t: TypeId, names: MemberNames)
-    ensures { scope.new ≡ with_scopes scope.old (specifying.completing
+    ensures answers { scope.new ≡ with_scopes scope.old (specifying.completing
         (number_of_shape (shape_at types.now t)) names scope.old.scopes) }
+    ensures grows { Grows (known types.now scope.old) (known types.now scope.new) }
 {
     match shape_at(types, t) {
         Some(TypeShape::Struct(number) | TypeShape::Union(number)) => {
@@ -230,9 +235,10 @@ fn completed(
     begun: Option<TypeId>,
 ) -> Result<TypeId, Fault>
     requires { names ≡ member_names (added NoMember (map typed_members_view rows.now)) }
-    ensures { Answers (λ t. t) (specifying.completed at (added NoMember
-        (map typed_members_view rows.now)) begun (known types.old scope.old)) result
+    ensures answers { Answers (λ t. t) (specifying.completed at
+        (added NoMember (map typed_members_view rows.now)) begun (known types.old scope.old)) result
         (known types.new scope.new) }
+    ensures grows { Grows (known types.old scope.old) (known types.new scope.new) }
 {
     let Some(t) = begun else {
         return Err(no_room(at));
@@ -262,6 +268,7 @@ pub fn ended(
         (specifying.ended before.now which at (option_copied name.entry) brace begun members
         (known types.old scope.old)) result (known types.new scope.new) }
     ensures counts { IfOk result (λ r. r.1 ≡ one_named before.now) }
+    ensures grows { Grows (known types.old scope.old) (known types.new scope.new) }
 {
     let place = tag_place(at, name);
     if let Some(fault) = aggregate_fault(scope, types, place, begun, is_empty_row(rows)) {

@@ -3,6 +3,7 @@
 
 ghost use Rattle.std.specs.Prelude.{◌≡◌, OnOk, option_copied, true};
 ghost use Rattle.c_types.specs.Table.{Table};
+ghost use Rattle.c_typing.specs.Growing.{Grows};
 ghost use Rattle.c_typing.specs.Judging.{Answers, known};
 ghost use Rattle.c_typing.specs.Scopes.{with_scopes};
 ghost use Rattle.c_typing.specs.Specifying as specifying;
@@ -29,8 +30,9 @@ pub fn is_taken_enumeration(found: Option<Tag>) -> bool
 /// `enum E { .. }` begins: its tag is declared, unless the innermost scope has it.
 #[tactic(auto, unfolding(c_typing::specs::Specifying::enumeration_begun))]
 pub fn enumeration_begun(scope: &mut Scope, name: Option<&Identifier>) -> Result<(), Fault>
-    ensures { (table : Table) → Answers (λ u. true) (specifying.enumeration_begun
+    ensures answers { (table : Table) → Answers (λ u. true) (specifying.enumeration_begun
         (option_copied name.entry) (known table scope.old)) result (known table scope.new) }
+    ensures grows { (table : Table) → Grows (known table scope.old) (known table scope.new) }
 {
     if tag_named_here(scope, name).is_some() {
         return Ok(());
@@ -41,8 +43,9 @@ pub fn enumeration_begun(scope: &mut Scope, name: Option<&Identifier>) -> Result
 
 /// It ends: from here on its tag is complete.
 pub fn enumeration_ended(scope: &mut Scope, name: Option<&Identifier>) -> Result<(), NoMemory>
-    ensures { OnOk result (scope.new ≡ with_scopes scope.old
+    ensures answers { OnOk result (scope.new ≡ with_scopes scope.old
         (enumerated (option_copied name.entry) scope.old.scopes)) }
+    ensures grows { (table : Table) → Grows (known table scope.old) (known table scope.new) }
 {
     match name {
         Some(name) => scope.set_tag(name.bytes.as_slice(), Tag::Enumeration),

@@ -7,6 +7,7 @@ ghost use Rattle.c_tree.specs.TypedTree.{TypedParameters, TypedParts, NoPart, No
 ghost use Rattle.c_tree.specs.TypedViews.{typed_core_view, typed_form_view, typed_parameter_view, typed_part_view, typed_specifier_view, typed_specifiers_of, typed_declared_of};
 ghost use Rattle.c_tree.specs.Views.{added};
 ghost use Rattle.c_typing.specs.Declarators.{Outermost, Written, is_no_part, is_pointed, parameter_types, taken_types, nearest, is_derived, is_derived_core};
+ghost use Rattle.c_typing.specs.Growing.{Grows};
 ghost use Rattle.c_typing.specs.Judging.{Answers, State, known, next};
 ghost use Rattle.c_typing.specs.Declaring as declaring;
 ghost use Rattle.c_check_declarators.specs.MakingViews.{nearest_view};
@@ -45,8 +46,9 @@ fn array_type(
     element: TypeId,
     count: u64,
 ) -> Result<TypeId, Fault>
-    ensures { Answers (λ t. t) (declaring.array_type at element count (known types.old scope.now))
-        result (known types.new scope.now) }
+    ensures answers { Answers (λ t. t) (declaring.array_type at element count
+        (known types.old scope.now)) result (known types.new scope.now) }
+    ensures grows { Grows (known types.old scope.now) (known types.new scope.now) }
 {
     if element.0 >= types.count() || !types.is_complete(element) || count == 0 {
         return Err(no_room(at));
@@ -64,8 +66,9 @@ fn array_of(
     count: Option<u64>,
     element: TypeId,
 ) -> Result<TypeId, Fault>
-    ensures { Answers (λ t. t) (declaring.array_of at (nearest_view nearest) count element
+    ensures answers { Answers (λ t. t) (declaring.array_of at (nearest_view nearest) count element
         (known types.old scope.now)) result (known types.new scope.now) }
+    ensures grows { Grows (known types.old scope.now) (known types.new scope.now) }
 {
     match nearest {
         Nearest::Points(node) => pointer_type(scope, types, at, node, element),
@@ -131,8 +134,10 @@ fn array_makes(
     count: Option<u64>,
     element: TypeId,
 ) -> Result<TypeId, Fault>
-    ensures { Answers (λ t. t) (declaring.array_makes at (nearest_view nearest) bracket words.now
-        count element (known types.old scope.now)) result (known types.new scope.now) }
+    ensures answers { Answers (λ t. t) (declaring.array_makes at
+        (nearest_view nearest) bracket words.now count element (known types.old scope.now)) result
+        (known types.new scope.now) }
+    ensures grows { Grows (known types.old scope.now) (known types.new scope.now) }
 {
     if let Some(fault) = array_fault(
         scope,
@@ -176,8 +181,9 @@ fn function_type(
     parameters: Vec<TypeId>,
     gives: TypeId,
 ) -> Result<TypeId, Fault>
-    ensures { Answers (λ t. t) (declaring.function_type at parameters.items gives
+    ensures answers { Answers (λ t. t) (declaring.function_type at parameters.items gives
         (known types.old scope.now)) result (known types.new scope.now) }
+    ensures grows { Grows (known types.old scope.now) (known types.new scope.now) }
 {
     if gives.0 >= types.count() || !are_types(types, &parameters) {
         return Err(no_room(at));
@@ -283,9 +289,10 @@ fn function_makes(
     parameters: &[TypedParameter],
     gives: TypeId,
 ) -> Result<TypeId, Fault>
-    ensures { Answers (λ t. t) (declaring.function_makes at (nearest_view nearest)
+    ensures answers { Answers (λ t. t) (declaring.function_makes at (nearest_view nearest)
         (added NoParameter (map typed_parameter_view parameters.now)) gives
         (known types.old scope.now)) result (known types.new scope.now) }
+    ensures grows { Grows (known types.old scope.now) (known types.new scope.now) }
 {
     if let Some(fault) = function_fault(types, gives, at) {
         return Err(fault);
@@ -308,9 +315,10 @@ fn part_makes(
     part: &TypedPart,
     base: TypeId,
 ) -> Result<TypeId, Fault>
-    ensures { (all : TypedParts) → Answers (λ t. t) (declaring.last_makes at (nearest_view nearest)
-        (typed_part_view part.now all) base (known types.old scope.now)) result
-        (known types.new scope.now) }
+    ensures answers { (all : TypedParts) → Answers (λ t. t) (declaring.last_makes at
+        (nearest_view nearest) (typed_part_view part.now all) base (known types.old scope.now))
+        result (known types.new scope.now) }
+    ensures grows { Grows (known types.old scope.now) (known types.new scope.now) }
 {
     match part {
         TypedPart::Array(bracket, words) => array_makes(
@@ -383,9 +391,10 @@ fn parts_make(
     parts: &[TypedPart],
     base: TypeId,
 ) -> Result<TypeId, Fault>
-    ensures { Answers (λ t. t) (declaring.parts_make at (nearest_view nearest)
+    ensures answers { Answers (λ t. t) (declaring.parts_make at (nearest_view nearest)
         (added NoPart (map typed_part_view parts.now)) base (known types.old scope.now)) result
         (known types.new scope.now) }
+    ensures grows { Grows (known types.old scope.now) (known types.new scope.now) }
 {
     let mut rest = parts;
     let mut t = base;
@@ -406,8 +415,9 @@ fn stars_make(
     stars: &[TypedStar],
     base: TypeId,
 ) -> Result<TypeId, Fault>
-    ensures { Answers (λ t. t) (declaring.stars_make at stars.now base (known types.old scope.now))
-        result (known types.new scope.now) }
+    ensures answers { Answers (λ t. t) (declaring.stars_make at stars.now base
+        (known types.old scope.now)) result (known types.new scope.now) }
+    ensures grows { Grows (known types.old scope.now) (known types.new scope.now) }
 {
     let mut rest = stars;
     let mut t = base;
@@ -458,9 +468,10 @@ pub fn form_makes(
     form: &TypedForm,
     base: TypeId,
 ) -> Result<TypeId, Fault>
-    ensures { Answers (λ t. t) (declaring.form_makes at (nearest_view nearest)
+    ensures answers { Answers (λ t. t) (declaring.form_makes at (nearest_view nearest)
         (typed_form_view form.now) base (known types.old scope.now)) result
         (known types.new scope.now) }
+    ensures grows { Grows (known types.old scope.now) (known types.new scope.now) }
 {
     let t = stars_make(scope, types, at, form.stars.as_slice(), base)?;
     let own = if is_derived_core(&form.core) {
@@ -485,9 +496,10 @@ pub fn declared_makes(
     declared: Option<&TypedForm>,
     base: TypeId,
 ) -> Result<TypeId, Fault>
-    ensures { Answers (λ t. t) (declaring.declared_makes at (nearest_view nearest)
+    ensures answers { Answers (λ t. t) (declaring.declared_makes at (nearest_view nearest)
         (typed_declared_of (option_map typed_form_view (option_copied declared.entry))) base
         (known types.old scope.now)) result (known types.new scope.now) }
+    ensures grows { Grows (known types.old scope.now) (known types.new scope.now) }
 {
     match declared {
         Some(form) => form_makes(scope, types, at, nearest, form, base),

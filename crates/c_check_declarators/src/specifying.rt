@@ -2,9 +2,11 @@
 #![tactic(auto)]
 
 ghost use Rattle.std.specs.Prelude.{◌≡◌, ◌++◌, OnOk, IfOk, None, option_copied};
+ghost use Rattle.c_types.specs.Table.{Table};
 ghost use Rattle.c_tree.specs.TypedTree.{Typedef};
 ghost use Rattle.c_tree.specs.TypedViews.{typed_specifier_view};
 ghost use Rattle.c_typing.specs.Declarators.{Counted, Named, counting, named_by_specifier};
+ghost use Rattle.c_typing.specs.Growing.{Grows};
 ghost use Rattle.c_typing.specs.Judging.{Answers, State, known};
 ghost use Rattle.c_typing.specs.Specifying as specifying;
 ghost use Rattle.c_typing.specs.Tests as tests;
@@ -85,8 +87,9 @@ pub fn declare_tag_of(
     what: Tag,
 ) -> Result<(), NoMemory>
     requires { tag_named_here scope.old.scopes (option_copied name) ≡ None }
-    ensures { OnOk result (scope.new ≡ with_scopes scope.old
+    ensures answers { OnOk result (scope.new ≡ with_scopes scope.old
         (tagging (option_copied name.entry) what scope.old.scopes)) }
+    ensures grows { (table : Table) → Grows (known table scope.old) (known table scope.new) }
 {
     match name {
         Some(name) => scope.declare_tag(name.bytes.as_slice(), what),
@@ -104,8 +107,9 @@ pub(crate) fn new_aggregate(
     name: Option<&Identifier>,
 ) -> Result<TypeId, Fault>
     requires { tag_named_here scope.old.scopes (option_copied name) ≡ None }
-    ensures { Answers (λ t. t) (specifying.new_aggregate which at (option_copied name.entry)
+    ensures answers { Answers (λ t. t) (specifying.new_aggregate which at (option_copied name.entry)
         (known types.old scope.old)) result (known types.new scope.new) }
+    ensures grows { Grows (known types.old scope.old) (known types.new scope.new) }
 {
     let Ok(number) = u32::try_from(scope.aggregates()) else {
         return Err(no_room(at));
@@ -161,8 +165,9 @@ fn tagged_as(
     found: Option<Tag>,
 ) -> Result<TypeId, Fault>
     requires { found ≡ None → tag_here scope.old.scopes.levels name.now.bytes ≡ None }
-    ensures { Answers (λ t. t) (specifying.tagged_as which name.now found
+    ensures answers { Answers (λ t. t) (specifying.tagged_as which name.now found
         (known types.old scope.old)) result (known types.new scope.new) }
+    ensures grows { Grows (known types.old scope.old) (known types.new scope.new) }
 {
     match found {
         Some(Tag::Aggregate(_, t)) => Ok(t),
@@ -186,6 +191,7 @@ pub fn tagged(
         (specifying.tagged before.now which at name.now (known types.old scope.old)) result
         (known types.new scope.new) }
     ensures counts { IfOk result (λ r. r.1 ≡ counting (typed_specifier_view r.0) before.now) }
+    ensures grows { Grows (known types.old scope.old) (known types.new scope.new) }
 {
     if let Some(fault) = tag_fault(scope, which, name) {
         return Err(fault);
@@ -214,6 +220,7 @@ pub fn tagged_alone(
     ensures listed { IfOk result (λ r. (named : Named) (words : Counted)
         → specifying.listed_type (named_by_specifier (typed_specifier_view r.0) named) words
         ≡ r.1) }
+    ensures grows { Grows (known types.old scope.old) (known types.new scope.new) }
 {
     if is_other_tag(which, scope.tag_here(name.bytes.as_slice())) {
         return Err(refusal(name.place, Rule::Redeclared));

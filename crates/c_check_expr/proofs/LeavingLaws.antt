@@ -5,13 +5,12 @@ use Rattle.cc_base.specs.declared.fault.Fault.TheVariants.{NoMemory}
 use Rattle.cc_base.specs.declared.place.Place.{Place}
 use Rattle.c_tree.specs.declared.expr.Core.TheOpen as layer
 use Rattle.c_tree.specs.declared.expr.Core.TheFolds.{fold_out-Part}
-use Rattle.c_tree.specs.declared.expr.Declarator.{Declarator, out-Declarator, roll-out-Declarator}
+use Rattle.c_tree.specs.declared.expr.Declarator.{Declarator, out-Declarator}
 use Rattle.c_tree.specs.declared.expr.Part.{Part}
 use Rattle.c_tree.specs.declared.leaf.Identifier.{Identifier}
 use Rattle.c_tree.specs.declared.leaf.Star.{Star}
 use Rattle.c_tree.specs.declared.typed_word.Home.{Home}
 use Rattle.c_tree.specs.declared.typed_word.TypedStar.{TypedStar}
-use Rattle.c_tree.proofs.ViewLaws.{view-Declarator}
 use Rattle.c_tree.proofs.TypedViewLaws.{seen-TypedSpecifiers}
 use Rattle.c_tree.specs.Tree as tree
 use Rattle.c_tree.specs.Tree.{Parameters}
@@ -33,6 +32,7 @@ use Rattle.c_typing_laws.proofs.Outcomes.{gives-state}
 use Rattle.c_unit_typing.specs.ParameterScopes.{level_given, level_of, parameters_written, scope_of_core, scope_of_declarator, scope_of_list}
 use Rattle.c_unit_typing.specs.Units.{unless_pointer}
 use Rattle.c_check_expr.proofs.PartLaws.{function_judged}
+use Rattle.c_check_expr.proofs.PartsSeen.{declarator_seen}
 use Rattle.c_check_expr.proofs.SeriesLaws.{stays_behind}
 use Rattle.c_check_expr.proofs.StayLaws.{no_parts, parts-stay}
 use Rattle.c_check_expr.specs.Leaving.{AreLeaving, Tells, is_bare}
@@ -173,11 +173,6 @@ module _ (which : Naming) (at : Place) (core : tree.Core) (list : List TypedStar
   declarator-tells [] (first ∷ rest) true h t a p =
       around [] (first ∷ rest) (λ outer e. absurd (true≢false (sym (ap (λ (ps : List Part). is_bare [] ps) e)))) h t a
   declarator-tells (star ∷ stars) parts true h t a p = around (star ∷ stars) parts (λ outer e. refl) h t a
-
-declarator_seen : (d : Declarator)
-    → declarator_view d ≡ tree.Declares (out-Declarator d).stars (core_view (out-Declarator d).core) (added tree.NoPart (map part_view (out-Declarator d).parts))
-declarator_seen d =
-    ap declarator_view (sym (roll-out-Declarator d)) ∙ view-Declarator (out-Declarator d).stars (out-Declarator d).core (out-Declarator d).parts
 
 -- a declarator of the code
 pub definition-tells : (which : Naming) (at : Place) (d : Declarator) (list : List TypedStar) (made : TypedParts) (inner level given : Level) (bare stays : Bool) (s m n r : State)

@@ -6,10 +6,11 @@ pub mod StarLaws
 pub mod PartLaws
 pub mod MemberLaws
 pub mod SpecifiedLaws
-pub mod ParameterLaws
+pub mod PartsSeen
 pub mod ExprLaws
 pub mod AcceptedLaws
 pub mod RoomLaws
 pub mod GivenLaws
 pub mod LimitFacts
 pub mod LeavingLaws
+pub mod NestLaws

@@ -1,6 +1,8 @@
 -- What was given by steps, and where they stopped.
-use Rattle.std.proofs.Common.{◌≡◌, refl, ap, subst, Bool, true, false, Result}
+use Rattle.std.proofs.Common.{◌≡◌, ◌≢◌, refl, ap, sym, subst, ◌∙◌, Bool, true, false, Result}
 use Rattle.cc_base.specs.declared.fault.Fault.{Fault}
+use Rattle.cc_base.specs.declared.fault.Fault.TheVariants.{NoMemory}
+use Rattle.c_typing.specs.Declaring.{once_left, stopped_outside}
 use Rattle.c_typing.specs.Judging.{State, Outcome, Judging, Gives, Stops, Answers, next, pure}
 
 value_in : {A : Type 0} → A → Outcome A → A
@@ -59,3 +61,8 @@ next-next (Stops fault s) f h = refl
 -- what answers the judging of one thing answers that of another that is the same
 pub answers-moved : {X A B : Type 0} (view : B → A) (judge : X → Outcome A) (x y : X) (r : Result B Fault) (t : State) → Answers view (judge x) r t → x ≡ y → Answers view (judge y) r t
 answers-moved view judge x y r t answers same = subst (λ z. Answers view (judge z) r t) same answers
+
+-- a stop in a scope of its own, which is left
+pub stop_outside : {A : Type 0} (o : Outcome A) (fault : Fault) (m r : State) → r ≡ once_left m → (fault ≢ NoMemory → o ≡ Stops fault m)
+    → fault ≢ NoMemory → stopped_outside o ≡ Stops fault r
+stop_outside {A} o fault m r left real n = ap stopped_outside (real n) ∙ sym (ap (λ (q : State). Stops fault q) left)

@@ -38,7 +38,7 @@ fails judge view stays xs i x within here a s t fault p real = stopped_at judge 
 
 -- the same for lists whose elements are seen by themselves
 
-folded : {X Y A : Type 0} (add : A → Y → A) (view : X → Y) (xs : List X) (a : A) → added a (map (λ x. λ b. add b (view x)) xs) ≡ fold add a (map view xs)
+pub folded : {X Y A : Type 0} (add : A → Y → A) (view : X → Y) (xs : List X) (a : A) → added a (map (λ x. λ b. add b (view x)) xs) ≡ fold add a (map view xs)
 folded add view [] a = refl
 folded add view (x ∷ xs) a = folded add view xs (add a (view x))
 

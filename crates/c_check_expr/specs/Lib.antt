@@ -5,3 +5,4 @@ pub mod Listed
 pub mod Accepted
 pub mod Limited
 pub mod Leaving
+pub mod Calls

@@ -2,35 +2,22 @@
 //! within the limits, is accepted: then only memory can be wanted.
 #![tactic(auto)]
 
-ghost use Rattle.std.specs.Prelude.{◌≡◌, Err, IfOk, None, Some, false, true, ℕ, ℤ};
-ghost use Rattle.cc_base.specs.declared.fault.Fault.TheVariants.{Refused};
-ghost use Rattle.cc_base.specs.declared.fault.Rule.{Rule as Broken};
-ghost use Rattle.cc_base.specs.declared.place.Place.{Place as At};
-ghost use Rattle.c_types.specs.Table.{IsAggregate, IsType, Table, is_aggregate_shape, shape_at};
-ghost use Rattle.c_types.specs.Sameness.{is_same_type};
-ghost use Rattle.c_tree.specs.Erasure.{erased_specifiers};
-ghost use Rattle.c_tree.specs.Spelling.{declarator_spelling, expr_spelling, specifiers_spelling};
-ghost use Rattle.c_tree.specs.TypedParts.{home_of, made_by, made_by_declarator, made_by_place, made_by_specifiers, place_type, specified_type, home_node};
-ghost use Rattle.c_tree.specs.TypedTree as typed_tree;
+ghost use Rattle.std.specs.Prelude.{◌≡◌, IfOk, None, false};
+ghost use Rattle.c_types.specs.Table.{IsType};
+ghost use Rattle.c_tree.specs.TypedParts.{home_of, made_by, made_by_declarator, made_by_specifiers, specified_type, home_node};
 ghost use Rattle.c_tree.specs.TypedViews.{typed_declarator_view, typed_expr_view, typed_specifiers_view};
 ghost use Rattle.c_tree.specs.Views.{declarator_view, expr_view, specifiers_view};
-ghost use Rattle.c_type_order.specs.TypesUsed.{used_by, used_by_declarator, used_by_place, used_by_specifiers};
 ghost use Rattle.c_typing.specs.Checking as checking;
-ghost use Rattle.c_typing.specs.Constants.{constant_value};
-ghost use Rattle.c_typing.specs.Conversions.{IsPlain, bare, is_taken_over};
-ghost use Rattle.c_typing.specs.Declarators.{Written};
+ghost use Rattle.c_typing.specs.Growing.{HasGrown};
 ghost use Rattle.c_typing.specs.Judging.{Answers, known};
 ghost use Rattle.c_typing.specs.Refusals.{Refuses};
-ghost use Rattle.c_typing.specs.Rules.{runtime_named};
 ghost use Rattle.c_typing.specs.Settled.{IsKnown};
 ghost use Rattle.c_typing.specs.Walks as walks;
-ghost use Rattle.c_typing_given.specs.Given.{point_at};
-ghost use Rattle.c_typing_laws.specs.Judged.{AreSpecifiersBy, AreSpecifiersJudged, BecomesBy, ConstantFails, DeclaratorFails, IsChecked, IsCheckedFor, IsConstantJudged, IsDeclaratorJudged, IsRefused, SpecifiersFail, ValueFails};
+ghost use Rattle.c_typing_laws.specs.Judged.{AreSpecifiersJudged, ConstantFails, IsChecked, IsCheckedFor, IsConstantJudged, SpecifiersFail, ValueFails};
 ghost use Rattle.c_typing_laws.specs.Numbers.{AreNumberedFrom};
-ghost use Rattle.c_typing_unique.specs.Points.{IsRead, IsReadAs, IsReadPlace, Point};
 ghost use Rattle.c_unit_typing.specs.ParameterScopes.{level_of};
 ghost use Rattle.c_unit_typing.specs.Holding.{declarator_holds, expr_holds, specifiers_holds};
-ghost use Rattle.c_check_expr.specs.Accepted.{CanBeGiven, IsDeclaratorRead, IsTaken};
+ghost use Rattle.c_check_expr.specs.Calls.{AcceptsConstant, AcceptsConverted, AcceptsCopied, AcceptsDeclarator, AcceptsSpecifiers, AcceptsValue, GivesDeclarator, RefusesDeclaratorForCause, RefusesForCause};
 ghost use Rattle.c_check_expr.specs.Limited.{IsWithin};
 ghost use Rattle.c_check_expr.specs.CheckingViews.{constant_view};
 
@@ -46,25 +33,22 @@ use cc_base::{Fault, Place, TypeId};
 /// The value of an expression; a struct is not read (C99 6.5). Tags and enumerators that it declares are added to the scope. A refusal is
 /// that of the first rule that fails in the order of the text; after it types, tags, enumerators and nodes of what stands before may be there.
 pub fn check_expr(scope: &mut Scope, types: &mut Types, e: &Expr) -> Result<TypedExpr, Fault>
-    ensures judged { Answers typed_expr_view (checking.checked (expr_view e.now)
+    ensures judged { Answers typed_expr_view
+        (checking.checked (expr_view e.now)
         (known types.old scope.old)) result (known types.new scope.new) }
+    ensures grown { HasGrown false (known types.old scope.old) (known types.new scope.new) }
     ensures typed { IsKnown (known types.old scope.old) → IfOk result
         (λ v. IsChecked (expr_view e.now) (typed_expr_view v) (known types.old scope.old)
         (known types.new scope.new)) }
-    ensures numbered { IsKnown (known types.old scope.old) → IfOk result
-        (λ v. AreNumberedFrom (made_by (typed_expr_view v)) (known types.old scope.old)
-        (known types.new scope.new)) }
+    ensures numbered { IsKnown (known types.old scope.old)
+        → IfOk result (λ v. AreNumberedFrom (made_by (typed_expr_view v))
+        (known types.old scope.old) (known types.new scope.new)) }
     ensures limited { IfOk result (λ v. IsWithin (expr_holds (expr_view e.now))
         (known types.old scope.old) (known types.new scope.new)) }
-    ensures refused { IsKnown (known types.old scope.old) → (p : At) (t : Broken) → result
-        ≡ Err (Refused p t) → IsRefused (λ T. Refuses T false (expr_view e.now) scope.old.scopes
-        (Refused p t)) (known types.old scope.old) (known types.new scope.new) }
-    ensures accepts { (T : Table) (v : typed_tree.TypedExpr) (b : Point) (count : ℕ)
-        → CanBeGiven T (expr_spelling (expr_view e.now)) (made_by v) (used_by T v)
-        (expr_holds (expr_view e.now)) (known types.old scope.old) count
-        → IsRead T (expr_view e.now) v (point_at (known types.old scope.old)) b
-        → is_taken_over (bare v) ≡ false → runtime_named (bare v) ≡ None
-        → IsTaken typed_expr_view (bare v) T (made_by v) (known types.old scope.old) b count result
+    ensures refused { IsKnown (known types.old scope.old)
+        → RefusesForCause (λ T f. Refuses T false (expr_view e.now) scope.old.scopes f)
+        (known types.old scope.old) result (known types.new scope.new) }
+    ensures accepts { AcceptsValue (expr_view e.now) (known types.old scope.old) result
         (known types.new scope.new) }
 {
     checked(scope, types, e)
@@ -80,35 +64,25 @@ pub fn check_value(
     init: bool,
     e: &Expr,
 ) -> Result<TypedExpr, Fault>
-    ensures judged { Answers typed_expr_view (checking.checked_value to at init (expr_view e.now)
+    ensures judged { Answers typed_expr_view
+        (checking.checked_value to at init (expr_view e.now)
         (known types.old scope.old)) result (known types.new scope.new) }
+    ensures grown { HasGrown false (known types.old scope.old) (known types.new scope.new) }
     ensures typed { IsKnown (known types.old scope.old) → IsType types.old to
         → IfOk result (λ v. IsCheckedFor to at init (expr_view e.now) (typed_expr_view v)
         (known types.old scope.old) (known types.new scope.new)) }
-    ensures numbered { IsKnown (known types.old scope.old) → IfOk result
-        (λ v. AreNumberedFrom (made_by (typed_expr_view v)) (known types.old scope.old)
-        (known types.new scope.new)) }
+    ensures numbered { IsKnown (known types.old scope.old)
+        → IfOk result (λ v. AreNumberedFrom (made_by (typed_expr_view v))
+        (known types.old scope.old) (known types.new scope.new)) }
     ensures limited { IfOk result (λ v. IsWithin (expr_holds (expr_view e.now))
         (known types.old scope.old) (known types.new scope.new)) }
     ensures refused { IsKnown (known types.old scope.old) → IsType types.old to
-        → (p : At) (t : Broken) → result ≡ Err (Refused p t)
-        → IsRefused (λ T. ValueFails T to at (expr_view e.now) scope.old.scopes (Refused p t))
-        (known types.old scope.old) (known types.new scope.new) }
-    ensures accepts { (T : Table) (v : typed_tree.TypedExpr) (b : Point) (count : ℕ)
-        → CanBeGiven T (expr_spelling (expr_view e.now)) (made_by v) (used_by T v)
-        (expr_holds (expr_view e.now)) (known types.old scope.old) count
-        → IsRead T (expr_view e.now) v (point_at (known types.old scope.old)) b
-        → IsType types.old to → BecomesBy init T b.scopes at to v
-        → IsTaken typed_expr_view v T (made_by v) (known types.old scope.old) b count result
-        (known types.new scope.new) }
-    ensures accepts_copied { (T : Table) (p : typed_tree.TypedPlace) (b : Point) (count : ℕ)
-        → CanBeGiven T (expr_spelling (expr_view e.now)) (made_by_place p) (used_by_place T p)
-        (expr_holds (expr_view e.now)) (known types.old scope.old) count
-        → IsReadPlace T (expr_view e.now) p (point_at (known types.old scope.old)) b → init ≡ true
-        → IsType types.old to → IsAggregate T (place_type p) → is_aggregate_shape (shape_at T to)
-        ≡ true → is_same_type T to (place_type p) ≡ true
-        → IsTaken typed_expr_view (typed_tree.Unread p) T (made_by_place p)
-        (known types.old scope.old) b count result (known types.new scope.new) }
+        → RefusesForCause (λ T f. ValueFails T to at (expr_view e.now) scope.old.scopes f)
+        (known types.old scope.old) result (known types.new scope.new) }
+    ensures accepts { AcceptsConverted init to at (expr_view e.now) (known types.old scope.old)
+        result (known types.new scope.new) }
+    ensures accepts_copied { AcceptsCopied init to (expr_view e.now) (known types.old scope.old)
+        result (known types.new scope.new) }
 {
     checked_for(scope, types, to, at, init, e)
 }
@@ -119,25 +93,23 @@ pub fn check_constant(
     types: &mut Types,
     e: &Expr,
 ) -> Result<(TypedExpr, i128), Fault>
-    ensures judged { Answers constant_view (checking.checked_constant (expr_view e.now)
+    ensures judged { Answers constant_view
+        (checking.checked_constant (expr_view e.now)
         (known types.old scope.old)) result (known types.new scope.new) }
+    ensures grown { HasGrown false (known types.old scope.old) (known types.new scope.new) }
     ensures typed { IsKnown (known types.old scope.old) → IfOk result
         (λ c. IsConstantJudged (expr_view e.now) (constant_view c) (known types.old scope.old)
         (known types.new scope.new)) }
-    ensures numbered { IsKnown (known types.old scope.old) → IfOk result
-        (λ c. AreNumberedFrom (made_by (constant_view c).expr) (known types.old scope.old)
-        (known types.new scope.new)) }
+    ensures numbered { IsKnown (known types.old scope.old)
+        → IfOk result (λ c. AreNumberedFrom (made_by (constant_view c).expr)
+        (known types.old scope.old) (known types.new scope.new)) }
     ensures limited { IfOk result (λ v. IsWithin (expr_holds (expr_view e.now))
         (known types.old scope.old) (known types.new scope.new)) }
-    ensures refused { IsKnown (known types.old scope.old) → (p : At) (t : Broken) → result
-        ≡ Err (Refused p t) → IsRefused (λ T. ConstantFails T (expr_view e.now) scope.old.scopes
-        (Refused p t)) (known types.old scope.old) (known types.new scope.new) }
-    ensures accepts { (T : Table) (v : typed_tree.TypedExpr) (z : ℤ) (b : Point) (count : ℕ)
-        → CanBeGiven T (expr_spelling (expr_view e.now)) (made_by v) (used_by T v)
-        (expr_holds (expr_view e.now)) (known types.old scope.old) count
-        → IsRead T (expr_view e.now) v (point_at (known types.old scope.old)) b → IsPlain v
-        → constant_value T v ≡ Some z → IsTaken constant_view (record { expr = v; value = z }) T
-        (made_by v) (known types.old scope.old) b count result (known types.new scope.new) }
+    ensures refused { IsKnown (known types.old scope.old)
+        → RefusesForCause (λ T f. ConstantFails T (expr_view e.now) scope.old.scopes f)
+        (known types.old scope.old) result (known types.new scope.new) }
+    ensures accepts { AcceptsConstant (expr_view e.now) (known types.old scope.old) result
+        (known types.new scope.new) }
 {
     checked_constant(scope, types, e)
 }
@@ -149,29 +121,23 @@ pub fn check_specifiers(
     specifiers: &Specifiers,
     alone: bool,
 ) -> Result<TypedSpecifiers, Fault>
-    ensures judged { Answers typed_specifiers_view (walks.judge_specifiers_of alone
-        (specifiers_view specifiers.now) (known types.old scope.old)) result
-        (known types.new scope.new) }
+    ensures judged { Answers typed_specifiers_view
+        (walks.judge_specifiers_of alone (specifiers_view specifiers.now)
+        (known types.old scope.old)) result (known types.new scope.new) }
+    ensures grown { HasGrown false (known types.old scope.old) (known types.new scope.new) }
     ensures typed { IsKnown (known types.old scope.old) → IfOk result
         (λ t. AreSpecifiersJudged alone (specifiers_view specifiers.now) (typed_specifiers_view t)
         (known types.old scope.old) (known types.new scope.new)) }
-    ensures numbered { IsKnown (known types.old scope.old) → IfOk result
-        (λ t. AreNumberedFrom (made_by_specifiers (typed_specifiers_view t))
+    ensures numbered { IsKnown (known types.old scope.old)
+        → IfOk result (λ t. AreNumberedFrom (made_by_specifiers (typed_specifiers_view t))
         (known types.old scope.old) (known types.new scope.new)) }
     ensures limited { IfOk result (λ v. IsWithin (specifiers_holds (specifiers_view specifiers.now))
         (known types.old scope.old) (known types.new scope.new)) }
-    ensures refused { IsKnown (known types.old scope.old) → (p : At) (t : Broken) → result
-        ≡ Err (Refused p t) → IsRefused (λ T. SpecifiersFail alone T
-        (specifiers_view specifiers.now) scope.old.scopes (Refused p t)) (known types.old scope.old)
-        (known types.new scope.new) }
-    ensures accepts { (T : Table) (t : typed_tree.TypedSpecifiers) (b : Point) (count : ℕ)
-        → CanBeGiven T (specifiers_spelling (specifiers_view specifiers.now)) (made_by_specifiers t)
-        (used_by_specifiers T t) (specifiers_holds (specifiers_view specifiers.now))
-        (known types.old scope.old) count → IsReadAs erased_specifiers made_by_specifiers
-        (AreSpecifiersBy alone T) (specifiers_view specifiers.now) t
-        (point_at (known types.old scope.old)) b → IsTaken typed_specifiers_view t T
-        (made_by_specifiers t) (known types.old scope.old) b count result
-        (known types.new scope.new) }
+    ensures refused { IsKnown (known types.old scope.old)
+        → RefusesForCause (λ T f. SpecifiersFail alone T (specifiers_view specifiers.now)
+        scope.old.scopes f) (known types.old scope.old) result (known types.new scope.new) }
+    ensures accepts { AcceptsSpecifiers alone (specifiers_view specifiers.now)
+        (known types.old scope.old) result (known types.new scope.new) }
 {
     specifiers_by(scope, types, specifiers, alone)
 }
@@ -187,35 +153,26 @@ pub fn check_declarator(
     size: Option<u64>,
     naming: Naming,
 ) -> Result<TypedDeclarator, Fault>
-    ensures judged { Answers typed_declarator_view (walks.judge_declarator naming
-        (typed_specifiers_view base.now) size (declarator_view d.now) (known types.old scope.old))
-        result (known types.new scope.new) }
-    ensures typed { IsKnown (known types.old scope.old) → IsType types.old
-        (specified_type (typed_specifiers_view base.now))
-        → IfOk result (λ one. IsDeclaratorJudged naming (walks.outermost_of size)
-        (specified_type (typed_specifiers_view base.now)) (declarator_view d.now)
-        (typed_declarator_view one) (known types.old scope.old) (known types.new scope.new)) }
+    ensures judged { Answers typed_declarator_view
+        (walks.judge_declarator naming (typed_specifiers_view base.now) size (declarator_view d.now)
+        (known types.old scope.old)) result (known types.new scope.new) }
+    ensures grown { HasGrown false (known types.old scope.old) (known types.new scope.new) }
+    ensures typed { IsKnown (known types.old scope.old) → GivesDeclarator naming
+        (walks.outermost_of size) (specified_type (typed_specifiers_view base.now))
+        (declarator_view d.now) (known types.old scope.old) result (known types.new scope.new) }
     ensures home { IfOk result (λ one. one.home ≡ home_node (home_of (typed_declarator_view one))) }
-    ensures numbered { IsKnown (known types.old scope.old) → IfOk result
-        (λ one. AreNumberedFrom (made_by_declarator (typed_declarator_view one))
+    ensures numbered { IsKnown (known types.old scope.old)
+        → IfOk result (λ one. AreNumberedFrom (made_by_declarator (typed_declarator_view one))
         (known types.old scope.old) (known types.new scope.new)) }
     ensures limited { IfOk result (λ v. IsWithin (declarator_holds (declarator_view d.now))
         (known types.old scope.old) (known types.new scope.new)) }
-    ensures refused { IsKnown (known types.old scope.old) → IsType types.old
-        (specified_type (typed_specifiers_view base.now)) → (p : At) (t : Broken) → result
-        ≡ Err (Refused p t) → IsRefused (λ T. DeclaratorFails T (walks.outermost_of size)
-        (specified_type (typed_specifiers_view base.now)) (declarator_view d.now) scope.old.scopes
-        (Refused p t)) (known types.old scope.old) (known types.new scope.new) }
-    ensures accepts { (T : Table) (one : typed_tree.TypedDeclarator) (b : Point) (count : ℕ)
-        → CanBeGiven T (declarator_spelling (declarator_view d.now)) (made_by_declarator one)
-        (used_by_declarator T Written one) (declarator_holds (declarator_view d.now))
-        (known types.old scope.old) count → IsType types.old
-        (specified_type (typed_specifiers_view base.now))
-        → IsDeclaratorRead T naming (walks.outermost_of size)
-        (specified_type (typed_specifiers_view base.now)) (declarator_view d.now) one
-        (point_at (known types.old scope.old)) b → IsTaken typed_declarator_view one T
-        (made_by_declarator one) (known types.old scope.old) b count result
-        (known types.new scope.new) }
+    ensures refused { IsKnown (known types.old scope.old)
+        → RefusesDeclaratorForCause (walks.outermost_of size)
+        (specified_type (typed_specifiers_view base.now)) (declarator_view d.now)
+        (known types.old scope.old) result (known types.new scope.new) }
+    ensures accepts { AcceptsDeclarator naming (walks.outermost_of size)
+        (specified_type (typed_specifiers_view base.now)) (declarator_view d.now)
+        (known types.old scope.old) result (known types.new scope.new) }
 {
     declarator_behind(scope, types, naming, base, size, d)
 }
@@ -232,11 +189,12 @@ pub fn check_definition(
     ensures judged { Answers (λ made. typed_declarator_view made.0)
         (walks.judge_declarator naming (typed_specifiers_view base.now) None (declarator_view d.now)
         (known types.old scope.old)) result (known types.new scope.new) }
-    ensures home { IfOk result (λ made. made.0.home
-        ≡ home_node (home_of (typed_declarator_view made.0))) }
-    ensures level { IfOk result (λ made. level_of naming (specified_type
-        (typed_specifiers_view base.now)) (declarator_view d.now) (known types.old scope.old)
-        ≡ made.1) }
+    ensures grown { HasGrown false (known types.old scope.old) (known types.new scope.new) }
+    ensures home { IfOk result (λ made. made.0.home ≡ home_node
+        (home_of (typed_declarator_view made.0))) }
+    ensures level { IfOk result (λ made. level_of naming
+        (specified_type (typed_specifiers_view base.now)) (declarator_view d.now)
+        (known types.old scope.old) ≡ made.1) }
 {
     definition_behind(scope, types, naming, base, d)
 }

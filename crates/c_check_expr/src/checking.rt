@@ -12,6 +12,7 @@ ghost use Rattle.c_typing.specs.Checking as checking;
 ghost use Rattle.c_typing.specs.Declaring as declaring;
 ghost use Rattle.c_check_expr.specs.CheckingViews.{constant_view};
 ghost use Rattle.c_check_declarators.specs.MakingViews.{nearest_view};
+ghost use Rattle.c_typing.specs.Growing.{Grows};
 ghost use Rattle.c_typing.specs.Judging as judging;
 ghost use Rattle.c_typing.specs.Judging.{Answers, known};
 ghost use Rattle.c_typing.specs.OperandViews.{operand_view, part_view, value_view, part_ref_view};
@@ -39,27 +40,26 @@ use c_typing::stops::refusal;
 use c_typing::typing::{side_of, value};
 use cc_base::{Fault, NoMemory, Place, Rule, TypeId};
 
-/// More levels of expressions, specifiers and declarators than the parser lets lie in one another.
-pub(crate) const LEVELS: u16 = 512;
-
 /// The first place of a text.
 pub(crate) const NOWHERE: Place = Place { line: 1, col: 1 };
 
 /// An expression whose value is taken.
 #[tactic(auto, unfolding(c_typing::specs::Walks::judge_value))]
 fn judged_value(scope: &mut Scope, types: &mut Types, e: &Expr) -> Result<Value, Fault>
-    ensures { Answers value_view (walks.judge_value (expr_view e.now) (known types.old scope.old))
-        result (known types.new scope.new) }
+    ensures answers { Answers value_view (walks.judge_value (expr_view e.now)
+        (known types.old scope.old)) result (known types.new scope.new) }
+    ensures grows { Grows (known types.old scope.old) (known types.new scope.new) }
 {
-    let x = judge_expr(scope, types, LEVELS, false, e)?;
+    let x = judge_expr(scope, types, false, e)?;
     value(scope, types, x)
 }
 
 /// The value of an expression; a struct is not read.
 #[tactic(auto, unfolding(c_typing::specs::Checking::checked))]
 pub(crate) fn checked(scope: &mut Scope, types: &mut Types, e: &Expr) -> Result<TypedExpr, Fault>
-    ensures { Answers typed_expr_view (checking.checked (expr_view e.now)
+    ensures answers { Answers typed_expr_view (checking.checked (expr_view e.now)
         (known types.old scope.old)) result (known types.new scope.new) }
+    ensures grows { Grows (known types.old scope.old) (known types.new scope.new) }
 {
     let v = judged_value(scope, types, e)?;
     Ok(v.expr.into_inner())
@@ -74,8 +74,9 @@ fn taken(
     to: TypeId,
     x: Operand,
 ) -> Result<Part, Fault>
-    ensures { Answers part_view (checking.taken init to (operand_view x)
+    ensures answers { Answers part_view (checking.taken init to (operand_view x)
         (known types.old scope.old)) result (known types.new scope.new) }
+    ensures grows { Grows (known types.old scope.old) (known types.new scope.new) }
 {
     if init {
         return given(scope, types, to, x.place, x.part);
@@ -125,10 +126,11 @@ pub(crate) fn checked_for(
     init: bool,
     e: &Expr,
 ) -> Result<TypedExpr, Fault>
-    ensures { Answers typed_expr_view (checking.checked_value to at init (expr_view e.now)
+    ensures answers { Answers typed_expr_view (checking.checked_value to at init (expr_view e.now)
         (known types.old scope.old)) result (known types.new scope.new) }
+    ensures grows { Grows (known types.old scope.old) (known types.new scope.new) }
 {
-    let x = judge_expr(scope, types, LEVELS, false, e)?;
+    let x = judge_expr(scope, types, false, e)?;
     let part = taken(scope, types, init, to, x)?;
     if !becomes(types, to, part.as_ref()) {
         return Err(refusal(at, Rule::Mismatch));
@@ -143,8 +145,9 @@ pub(crate) fn checked_constant(
     types: &mut Types,
     e: &Expr,
 ) -> Result<(TypedExpr, i128), Fault>
-    ensures { Answers constant_view (checking.checked_constant (expr_view e.now)
+    ensures answers { Answers constant_view (checking.checked_constant (expr_view e.now)
         (known types.old scope.old)) result (known types.new scope.new) }
+    ensures grows { Grows (known types.old scope.old) (known types.new scope.new) }
 {
     let v = judged_value(scope, types, e)?;
     match constant_value(types, v.expr.get()) {
@@ -194,12 +197,13 @@ fn alone_specifiers(
     types: &mut Types,
     specifiers: &Specifiers,
 ) -> Result<TypedSpecifiers, Fault>
-    ensures { Answers typed_specifiers_view (walks.judge_specifiers_of true
+    ensures answers { Answers typed_specifiers_view (walks.judge_specifiers_of true
         (specifiers_view specifiers.now) (known types.old scope.old)) result
         (known types.new scope.new) }
+    ensures grows { Grows (known types.old scope.old) (known types.new scope.new) }
 {
     let Some((which, at, name)) = tag_alone(specifiers.list.as_slice()) else {
-        return judge_specifiers(scope, types, LEVELS, specifiers);
+        return judge_specifiers(scope, types, specifiers);
     };
     let (one, ty) = tagged_alone(scope, types, which, at, name)?;
     let mut list = Items::new(scope.alloc());
@@ -215,14 +219,15 @@ pub(crate) fn specifiers_by(
     specifiers: &Specifiers,
     alone: bool,
 ) -> Result<TypedSpecifiers, Fault>
-    ensures { Answers typed_specifiers_view (walks.judge_specifiers_of alone
+    ensures answers { Answers typed_specifiers_view (walks.judge_specifiers_of alone
         (specifiers_view specifiers.now) (known types.old scope.old)) result
         (known types.new scope.new) }
+    ensures grows { Grows (known types.old scope.old) (known types.new scope.new) }
 {
     if alone {
         alone_specifiers(scope, types, specifiers)
     } else {
-        judge_specifiers(scope, types, LEVELS, specifiers)
+        judge_specifiers(scope, types, specifiers)
     }
 }
 
@@ -263,6 +268,7 @@ pub(crate) fn with_type(
         (known types.old scope.old)) (λ t. judging.pure (typed.Declares (typed_form_view form) t)))
         result (known types.new scope.new) }
     ensures home { IfOk result (λ one. one.home ≡ home_node (home_of (typed_declarator_view one))) }
+    ensures grows { Grows (known types.old scope.old) (known types.new scope.new) }
 {
     let ty = form_makes(scope, types, at, nearest_of(size), &form, base)?;
     let home = home_node(home_of(&form));
@@ -283,9 +289,10 @@ pub(crate) fn declarator_behind(
         (typed_specifiers_view base.now) size (declarator_view d.now) (known types.old scope.old))
         result (known types.new scope.new) }
     ensures home { IfOk result (λ one. one.home ≡ home_node (home_of (typed_declarator_view one))) }
+    ensures grows { Grows (known types.old scope.old) (known types.new scope.new) }
 {
     let at = name_place(declarator_name(d), NOWHERE);
     let which = naming_of(types, naming, base.ty, d);
-    let form = judge_form(scope, types, LEVELS, which, at, d)?;
+    let form = judge_form(scope, types, which, at, d)?;
     with_type(scope, types, at, size, form, base.ty)
 }

@@ -1,13 +1,15 @@
 //! What stands in a declarator (C99 6.7.5): nodes, homes, sizes and parameters, in the order of the text.
 #![tactic(auto)]
 
-ghost use Rattle.std.specs.Prelude.{◌≡◌, IfOk, List, map};
+ghost use Rattle.std.specs.Prelude.{◌≡◌, IfOk, List, map, suc};
 ghost use Rattle.c_types.specs.Table.{Table};
+ghost use Rattle.c_tree.specs.Depth.{core_height, declarator_height, parameters_height, parts_height};
 ghost use Rattle.c_tree.specs.Tree.{Parts, NoPart, AndFunction, NoParameter};
 ghost use Rattle.c_tree.specs.TypedTree.{TypedParts, AndSizedArray, NoPart as no_typed_part};
 ghost use Rattle.c_tree.specs.Views.{added, core_view, declarator_view, parameter_view, part_view};
 ghost use Rattle.c_tree.specs.TypedViews.{typed_core_view, typed_form_view, typed_part_view};
 ghost use Rattle.c_typing.specs.Declaring as declaring;
+ghost use Rattle.c_typing.specs.Growing.{Grows};
 ghost use Rattle.c_typing.specs.Judging.{Answers, Gives, State, known, new_node};
 ghost use Rattle.c_check_expr.specs.Nests.{Nests};
 ghost use Rattle.c_typing.specs.OperandViews.{value_view};
@@ -31,11 +33,12 @@ use c_typing::stops::{no_room, refusal};
 use cc_base::{Fault, NodeId, Place, Rule};
 
 /// A new node for what is named at the place.
-#[tactic(auto, unfolding(c_typing::specs::Judging::new_node))]
+#[tactic(auto, using(c_typing::proofs::GrowingLaws::grown), unfolding(c_typing::specs::Judging::new_node))]
 pub(crate) fn node_at(scope: &mut Scope, at: Place) -> Result<NodeId, Fault>
     ensures answers { (table : Table) → Answers (λ n. n)
         (new_node at (known table scope.old)) result (known table scope.new) }
     ensures same { scope.new.scopes ≡ scope.old.scopes }
+    ensures grows { (table : Table) → Grows (known table scope.old) (known table scope.new) }
 {
     match scope.new_node() {
         Some(node) => Ok(node),
@@ -46,8 +49,9 @@ pub(crate) fn node_at(scope: &mut Scope, at: Place) -> Result<NodeId, Fault>
 /// The home of a name, whose node is made where the name stands.
 #[tactic(auto, unfolding(c_typing::specs::Declaring::home_as))]
 pub(crate) fn home_as(scope: &mut Scope, at: Place, which: Naming) -> Result<Home, Fault>
-    ensures { (table : Table) → Answers (λ home. home) (declaring.home_as at which
-        (known table scope.old)) result (known table scope.new) }
+    ensures answers { (table : Table) → Answers (λ home. home)
+        (declaring.home_as at which (known table scope.old)) result (known table scope.new) }
+    ensures grows { (table : Table) → Grows (known table scope.old) (known table scope.new) }
 {
     match which {
         Naming::None => Ok(Home::None),
@@ -63,6 +67,7 @@ fn star_with_node(scope: &mut Scope, at: Place, star: &Star) -> Result<TypedStar
     ensures ok { (table : Table) → Answers (λ s. s.node)
         (new_node at (known table scope.old)) result (known table scope.new) }
     ensures same { IfOk result (λ s. s.star ≡ star.now) }
+    ensures grows { (table : Table) → Grows (known table scope.old) (known table scope.new) }
 {
     let node = node_at(scope, at)?;
     let star = copied_star(scope.alloc(), star)?;
@@ -75,8 +80,10 @@ pub(crate) fn stars_with_nodes(
     at: Place,
     stars: &[Star],
 ) -> Result<Items<TypedStar>, Fault>
-    ensures { (table : Table) → Answers (λ found. found) (declaring.stars_with_nodes at stars.now
-        (known table scope.old)) result (known table scope.new) }
+    ensures answers { (table : Table) → Answers (λ found. found)
+        (declaring.stars_with_nodes at stars.now (known table scope.old)) result
+        (known table scope.new) }
+    ensures grows { (table : Table) → Grows (known table scope.old) (known table scope.new) }
 {
     let mut found = Items::new(scope.alloc());
     for star in stars {
@@ -153,9 +160,9 @@ fn sized(
 }
 
 impl<
-    E: Fn(&mut Scope, &mut Types, u16, bool, &Expr) -> Result<Operand, Fault>,
-    S: Fn(&mut Scope, &mut Types, u16, &Specifiers) -> Result<TypedSpecifiers, Fault>,
-    D: Fn(&mut Scope, &mut Types, u16, Naming, Place, &Declarator) -> Result<TypedForm, Fault>,
+    E: Fn(&mut Scope, &mut Types, bool, &Expr) -> Result<Operand, Fault>,
+    S: Fn(&mut Scope, &mut Types, &Specifiers) -> Result<TypedSpecifiers, Fault>,
+    D: Fn(&mut Scope, &mut Types, Naming, Place, &Declarator) -> Result<TypedForm, Fault>,
 > Walker<E, S, D> {
     /// A function part after the parts that are judged.
     #[tactic(auto, using(c_tree::proofs::TypedViewLaws::typed_views, crate::proofs::PartLaws::function_judged))]
@@ -167,23 +174,25 @@ impl<
         paren: Place,
         parameters: &[Parameter],
     ) -> Result<TypedPart, Fault>
-        requires nests { Nests self.now.depth (E.pre self.now.judge_expr)
+        requires nests { Nests (suc (parameters_height (added NoParameter
+            (map parameter_view parameters.now)))) (E.pre self.now.judge_expr)
             (E.post self.now.judge_expr) (S.pre self.now.judge_specifiers)
             (S.post self.now.judge_specifiers) (D.pre self.now.judge_form)
             (D.post self.now.judge_form) }
-        ensures { (start : State) (before : Parts) (done : TypedParts)
+        ensures answers { (start : State) (before : Parts) (done : TypedParts)
             → walks.judge_parts at before start ≡ Gives done (known types.old scope.old)
             → Answers (λ made. typed_part_view made done)
             (walks.judge_parts at (AndFunction before paren
             (added NoParameter (map parameter_view parameters.now))) start) result
             (known types.new scope.new) }
+        ensures grows { Grows (known types.old scope.old) (known types.new scope.new) }
     {
         let (list, _) = self.prototype_left(scope, types, at, parameters)?;
         Ok(TypedPart::Function(paren, list))
     }
 
     /// A part after those that are judged.
-    #[tactic(auto, using(c_tree::proofs::ViewLaws::expr_views, c_tree::proofs::TypedViewLaws::typed_views), unfolding(c_typing::specs::Walks::judge_parts, c_typing::specs::Walks::judge_value))]
+    #[tactic(auto, using(crate::proofs::NestLaws::nests, c_tree::proofs::ViewLaws::expr_views, c_tree::proofs::TypedViewLaws::typed_views), unfolding(c_typing::specs::Walks::judge_parts, c_typing::specs::Walks::judge_value))]
     pub(crate) fn part(
         &self,
         scope: &mut Scope,
@@ -191,15 +200,16 @@ impl<
         at: Place,
         part: &Part,
     ) -> Result<TypedPart, Fault>
-        requires nests { Nests self.now.depth (E.pre self.now.judge_expr)
-            (E.post self.now.judge_expr) (S.pre self.now.judge_specifiers)
-            (S.post self.now.judge_specifiers) (D.pre self.now.judge_form)
-            (D.post self.now.judge_form) }
-        ensures { (start : State) (before : Parts) (done : TypedParts)
+        requires nests { Nests (suc (parts_height (part_view part.now NoPart)))
+            (E.pre self.now.judge_expr) (E.post self.now.judge_expr)
+            (S.pre self.now.judge_specifiers) (S.post self.now.judge_specifiers)
+            (D.pre self.now.judge_form) (D.post self.now.judge_form) }
+        ensures answers { (start : State) (before : Parts) (done : TypedParts)
             → walks.judge_parts at before start ≡ Gives done (known types.old scope.old)
             → Answers (λ made. typed_part_view made done)
             (walks.judge_parts at (part_view part.now before) start) result
             (known types.new scope.new) }
+        ensures grows { Grows (known types.old scope.old) (known types.new scope.new) }
     {
         match part {
             Part::Array(bracket, words, None) => {
@@ -226,15 +236,16 @@ impl<
         first: Items<TypedPart>,
         rest: &[Part],
     ) -> Result<Items<TypedPart>, Fault>
-        requires nests { Nests self.now.depth (E.pre self.now.judge_expr)
-            (E.post self.now.judge_expr) (S.pre self.now.judge_specifiers)
-            (S.post self.now.judge_specifiers) (D.pre self.now.judge_form)
-            (D.post self.now.judge_form) }
-        ensures { (start : State) (before : Parts) → walks.judge_parts at before start
+        requires nests { Nests (suc (parts_height (added NoPart (map part_view rest.now))))
+            (E.pre self.now.judge_expr) (E.post self.now.judge_expr)
+            (S.pre self.now.judge_specifiers) (S.post self.now.judge_specifiers)
+            (D.pre self.now.judge_form) (D.post self.now.judge_form) }
+        ensures answers { (start : State) (before : Parts) → walks.judge_parts at before start
             ≡ Gives (added no_typed_part (map typed_part_view first)) (known types.old scope.old)
             → Answers (λ found. added no_typed_part (map typed_part_view found))
             (walks.judge_parts at (added before (map part_view rest.now)) start) result
             (known types.new scope.new) }
+        ensures grows { Grows (known types.old scope.old) (known types.new scope.new) }
     {
         let mut found = first;
         for part in rest {
@@ -252,13 +263,14 @@ impl<
         at: Place,
         parts: &[Part],
     ) -> Result<Items<TypedPart>, Fault>
-        requires nests { Nests self.now.depth (E.pre self.now.judge_expr)
-            (E.post self.now.judge_expr) (S.pre self.now.judge_specifiers)
-            (S.post self.now.judge_specifiers) (D.pre self.now.judge_form)
-            (D.post self.now.judge_form) }
-        ensures { Answers (λ found. added no_typed_part (map typed_part_view found))
+        requires nests { Nests (suc (parts_height (added NoPart (map part_view parts.now))))
+            (E.pre self.now.judge_expr) (E.post self.now.judge_expr)
+            (S.pre self.now.judge_specifiers) (S.post self.now.judge_specifiers)
+            (D.pre self.now.judge_form) (D.post self.now.judge_form) }
+        ensures answers { Answers (λ found. added no_typed_part (map typed_part_view found))
             (walks.judge_parts at (added NoPart (map part_view parts.now))
             (known types.old scope.old)) result (known types.new scope.new) }
+        ensures grows { Grows (known types.old scope.old) (known types.new scope.new) }
     {
         self.parts_behind(scope, types, at, Items::new(scope.alloc()), parts)
     }
@@ -273,12 +285,13 @@ impl<
         at: Place,
         core: &Core,
     ) -> Result<TypedCore, Fault>
-        requires nests { Nests self.now.depth (E.pre self.now.judge_expr)
+        requires nests { Nests (suc (core_height (core_view core.now))) (E.pre self.now.judge_expr)
             (E.post self.now.judge_expr) (S.pre self.now.judge_specifiers)
             (S.post self.now.judge_specifiers) (D.pre self.now.judge_form)
             (D.post self.now.judge_form) }
-        ensures { Answers typed_core_view (walks.judge_core which at (core_view core.now)
+        ensures answers { Answers typed_core_view (walks.judge_core which at (core_view core.now)
             (known types.old scope.old)) result (known types.new scope.new) }
+        ensures grows { Grows (known types.old scope.old) (known types.new scope.new) }
     {
         match core {
             Core::Names(name) => {
@@ -294,7 +307,7 @@ impl<
     }
 
     /// What stands in a declarator, whose name is to be this and whose type is named at the place.
-    #[tactic(auto, using(c_tree::proofs::ViewLaws::expr_views, c_tree::proofs::TypedViewLaws::typed_views), unfolding(c_typing::specs::Walks::judge_form))]
+    #[tactic(auto, using(crate::proofs::NestLaws::nests, c_tree::proofs::ViewLaws::expr_views, c_tree::proofs::TypedViewLaws::typed_views), unfolding(c_typing::specs::Walks::judge_form))]
     pub(crate) fn form_layer(
         &self,
         scope: &mut Scope,
@@ -303,12 +316,13 @@ impl<
         at: Place,
         d: &Declarator,
     ) -> Result<TypedForm, Fault>
-        requires nests { Nests self.now.depth (E.pre self.now.judge_expr)
-            (E.post self.now.judge_expr) (S.pre self.now.judge_specifiers)
-            (S.post self.now.judge_specifiers) (D.pre self.now.judge_form)
-            (D.post self.now.judge_form) }
-        ensures { Answers typed_form_view (walks.judge_form which at (declarator_view d.now)
+        requires nests { Nests (declarator_height (declarator_view d.now))
+            (E.pre self.now.judge_expr) (E.post self.now.judge_expr)
+            (S.pre self.now.judge_specifiers) (S.post self.now.judge_specifiers)
+            (D.pre self.now.judge_form) (D.post self.now.judge_form) }
+        ensures answers { Answers typed_form_view (walks.judge_form which at (declarator_view d.now)
             (known types.old scope.old)) result (known types.new scope.new) }
+        ensures grows { Grows (known types.old scope.old) (known types.new scope.new) }
     {
         let stars = stars_with_nodes(scope, at, d.stars.as_slice())?;
         let core = self.core(scope, types, which, at, &d.core)?;

@@ -1,7 +1,8 @@
 //! The declarator of a function definition: what its list of parameters declares is seen in the body (C99 6.2.1).
 #![tactic(auto)]
 
-ghost use Rattle.std.specs.Prelude.{◌≡◌, ◌&&◌, IfOk, None, Option, map, if◌then◌else◌};
+ghost use Rattle.std.specs.Prelude.{◌≡◌, ◌&&◌, IfOk, None, Option, map, if◌then◌else◌, suc};
+ghost use Rattle.c_tree.specs.Depth.{parameters_height, parts_height};
 ghost use Rattle.c_tree.specs.Tree.{NoPart, AndFunction, NoParameter, Parts, Parameters};
 ghost use Rattle.c_tree.specs.TypedParts.{home_of, specified_type, home_node};
 ghost use Rattle.c_tree.specs.TypedTree.{TypedParts, NoPart as no_typed_part};
@@ -9,11 +10,12 @@ ghost use Rattle.c_tree.specs.Views.{added, core_view, declarator_view, paramete
 ghost use Rattle.c_tree.specs.TypedViews.{typed_core_view, typed_declarator_view, typed_form_view, typed_part_view, typed_specifiers_view};
 ghost use Rattle.c_check_expr.specs.Leaving.{AreLeaving, Tells, is_bare};
 ghost use Rattle.c_check_expr.specs.Nests.{Nests};
+ghost use Rattle.c_typing.specs.Growing.{Grows};
 ghost use Rattle.c_typing.specs.Judging.{Answers, Gives, State, known};
 ghost use Rattle.c_typing.specs.Walks as walks;
 ghost use Rattle.c_unit_typing.specs.ParameterScopes.{level_given, level_of, parameters_written, scope_of_core, scope_of_declarator, scope_of_list};
 
-use crate::checking::{LEVELS, NOWHERE, naming_of, with_type};
+use crate::checking::{NOWHERE, naming_of, with_type};
 use crate::declarators::{home_as, stars_with_nodes};
 use crate::walk::{judge_expr, judge_form, judge_specifiers};
 use crate::walker::Walker;
@@ -57,9 +59,9 @@ fn nearest(bare: bool, here: Level, rest: Level) -> Level
 }
 
 impl<
-    E: Fn(&mut Scope, &mut Types, u16, bool, &Expr) -> Result<Operand, Fault>,
-    S: Fn(&mut Scope, &mut Types, u16, &Specifiers) -> Result<TypedSpecifiers, Fault>,
-    D: Fn(&mut Scope, &mut Types, u16, Naming, Place, &Declarator) -> Result<TypedForm, Fault>,
+    E: Fn(&mut Scope, &mut Types, bool, &Expr) -> Result<Operand, Fault>,
+    S: Fn(&mut Scope, &mut Types, &Specifiers) -> Result<TypedSpecifiers, Fault>,
+    D: Fn(&mut Scope, &mut Types, Naming, Place, &Declarator) -> Result<TypedForm, Fault>,
 > Walker<E, S, D> {
     /// The list of parameters that stands nearest to the name, with the scope that it leaves.
     #[tactic(auto, using(c_tree::proofs::TypedViewLaws::typed_views, crate::proofs::LeavingLaws::function_nearest))]
@@ -71,7 +73,8 @@ impl<
         paren: Place,
         parameters: &[Parameter],
     ) -> Result<(TypedPart, Level), Fault>
-        requires nests { Nests self.now.depth (E.pre self.now.judge_expr)
+        requires nests { Nests (suc (parameters_height (added NoParameter
+            (map parameter_view parameters.now)))) (E.pre self.now.judge_expr)
             (E.post self.now.judge_expr) (S.pre self.now.judge_specifiers)
             (S.post self.now.judge_specifiers) (D.pre self.now.judge_form)
             (D.post self.now.judge_form) }
@@ -83,13 +86,14 @@ impl<
             → level_given (scope_of_list (parameters_written
             (AndFunction NoPart paren (added NoParameter (map parameter_view parameters.now)))
             outer) (known types.old scope.old)) ≡ made.1) }
+        ensures grows { Grows (known types.old scope.old) (known types.new scope.new) }
     {
         let (list, level) = self.prototype_left(scope, types, at, parameters)?;
         Ok((TypedPart::Function(paren, list), level))
     }
 
     /// The part that stands nearest to the name.
-    #[tactic(auto, using(c_tree::proofs::ViewLaws::expr_views, c_tree::proofs::TypedViewLaws::typed_views, crate::proofs::StayLaws::none_judged), unfolding(c_unit_typing::specs::ParameterScopes::scope_of_list))]
+    #[tactic(auto, using(crate::proofs::NestLaws::nests, c_tree::proofs::ViewLaws::expr_views, c_tree::proofs::TypedViewLaws::typed_views, crate::proofs::StayLaws::none_judged), unfolding(c_unit_typing::specs::ParameterScopes::scope_of_list))]
     fn nearest_part(
         &self,
         scope: &mut Scope,
@@ -97,16 +101,17 @@ impl<
         at: Place,
         part: &Part,
     ) -> Result<(TypedPart, Level), Fault>
-        requires nests { Nests self.now.depth (E.pre self.now.judge_expr)
-            (E.post self.now.judge_expr) (S.pre self.now.judge_specifiers)
-            (S.post self.now.judge_specifiers) (D.pre self.now.judge_form)
-            (D.post self.now.judge_form) }
+        requires nests { Nests (suc (parts_height (part_view part.now NoPart)))
+            (E.pre self.now.judge_expr) (E.post self.now.judge_expr)
+            (S.pre self.now.judge_specifiers) (S.post self.now.judge_specifiers)
+            (D.pre self.now.judge_form) (D.post self.now.judge_form) }
         ensures judged { Answers (λ made. typed_part_view made.0 no_typed_part)
             (walks.judge_parts at (part_view part.now NoPart) (known types.old scope.old)) result
             (known types.new scope.new) }
         ensures left { IfOk result (λ made. (outer : Option Parameters)
             → level_given (scope_of_list (parameters_written (part_view part.now NoPart) outer)
             (known types.old scope.old)) ≡ made.1) }
+        ensures grows { Grows (known types.old scope.old) (known types.new scope.new) }
     {
         match part {
             Part::Function(paren, parameters) => {
@@ -128,15 +133,16 @@ impl<
         at: Place,
         parts: &[Part],
     ) -> Result<(Items<TypedPart>, Level), Fault>
-        requires nests { Nests self.now.depth (E.pre self.now.judge_expr)
-            (E.post self.now.judge_expr) (S.pre self.now.judge_specifiers)
-            (S.post self.now.judge_specifiers) (D.pre self.now.judge_form)
-            (D.post self.now.judge_form) }
+        requires nests { Nests (suc (parts_height (added NoPart (map part_view parts.now))))
+            (E.pre self.now.judge_expr) (E.post self.now.judge_expr)
+            (S.pre self.now.judge_specifiers) (S.post self.now.judge_specifiers)
+            (D.pre self.now.judge_form) (D.post self.now.judge_form) }
         ensures judged { Answers (λ made. added no_typed_part (map typed_part_view made.0))
             (walks.judge_parts at (added NoPart (map part_view parts.now))
             (known types.old scope.old)) result (known types.new scope.new) }
         ensures left { IfOk result (λ made. AreLeaving parts.now made.1
             (known types.old scope.old)) }
+        ensures grows { Grows (known types.old scope.old) (known types.new scope.new) }
     {
         let Some((first, rest)) = parts.split_first() else {
             return Ok((Items::new(scope.alloc()), Level::new(scope.alloc())));
@@ -155,7 +161,6 @@ impl<
 fn core_left(
     scope: &mut Scope,
     types: &mut Types,
-    depth: u16,
     which: Naming,
     at: Place,
     core: &Core,
@@ -165,6 +170,7 @@ fn core_left(
         (known types.new scope.new) }
     ensures tells { IfOk result (λ left. Tells (scope_of_core which at (core_view core.now))
         left.bare left.level (known types.old scope.old) (known types.new scope.new)) }
+    ensures grows { Grows (known types.old scope.old) (known types.new scope.new) }
 {
     match core {
         Core::Names(name) => {
@@ -181,7 +187,7 @@ fn core_left(
             level: Level::new(scope.alloc()),
         }),
         Core::Nested(paren, d) => {
-            let form = judge_definition(scope, types, depth, which, at, d.get())?;
+            let form = judge_definition(scope, types, which, at, d.get())?;
             Ok(Left {
                 one: TypedCore::Nested(*paren, Boxed::new(scope.alloc(), form.one)?),
                 bare: form.bare,
@@ -197,7 +203,6 @@ fn core_left(
 fn judge_definition(
     scope: &mut Scope,
     types: &mut Types,
-    depth: u16,
     which: Naming,
     at: Place,
     d: &Declarator,
@@ -208,18 +213,15 @@ fn judge_definition(
     ensures tells { IfOk result (λ left. Tells (scope_of_declarator which at
         (declarator_view d.now)) left.bare left.level (known types.old scope.old)
         (known types.new scope.new)) }
+    ensures grows { Grows (known types.old scope.old) (known types.new scope.new) }
 {
-    if depth == 0 {
-        return Err(Fault::NoMemory);
-    }
     let walker = Walker {
-        depth: depth - 1,
         judge_expr,
         judge_specifiers,
         judge_form,
     };
     let stars = stars_with_nodes(scope, at, d.stars.as_slice())?;
-    let inner = core_left(scope, types, depth - 1, which, at, &d.core)?;
+    let inner = core_left(scope, types, which, at, &d.core)?;
     let (parts, level) = walker.nearest_parts(scope, types, at, d.parts.as_slice())?;
     Ok(Left {
         one: TypedForm {
@@ -249,10 +251,11 @@ pub(crate) fn definition_behind(
     ensures level { IfOk result (λ made. level_of naming (specified_type
         (typed_specifiers_view base.now)) (declarator_view d.now) (known types.old scope.old)
         ≡ made.1) }
+    ensures grows { Grows (known types.old scope.old) (known types.new scope.new) }
 {
     let at = name_place(declarator_name(d), NOWHERE);
     let which = naming_of(types, naming, base.ty, d);
-    let left = judge_definition(scope, types, LEVELS, which, at, d)?;
+    let left = judge_definition(scope, types, which, at, d)?;
     let one = with_type(scope, types, at, None, left.one, base.ty)?;
     Ok((one, left.level))
 }

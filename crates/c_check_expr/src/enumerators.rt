@@ -1,15 +1,17 @@
 //! Enumerators (C99 6.7.2.2).
 #![tactic(auto)]
 
-ghost use Rattle.std.specs.Prelude.{◌≡◌, ◌≢◌, ◌++◌, ◌||◌, IfOk, IfErr, map, Some, None};
+ghost use Rattle.std.specs.Prelude.{◌≡◌, ◌≢◌, ◌++◌, ◌||◌, IfOk, IfErr, map, Some, None, suc};
 ghost use Rattle.cc_base.specs.declared.fault.Fault.TheVariants.{NoMemory as no_memory};
 ghost use Rattle.c_types.specs.Table.{Table};
+ghost use Rattle.c_tree.specs.Depth.{enumerators_height};
 ghost use Rattle.c_tree.specs.Tree.{Enumerators, NoEnumerator};
 ghost use Rattle.c_tree.specs.TypedTree.{TypedEnumerators, AndValued, NoEnumerator as none_typed};
 ghost use Rattle.c_tree.specs.TypedViews.{typed_enumerator_view};
 ghost use Rattle.c_tree.specs.Views.{added, enumerator_view};
 ghost use Rattle.integers.specs.Arithmetic.{int, converted};
 ghost use Rattle.c_typing.specs.declared.declared.Declared.TheVariants as declared;
+ghost use Rattle.c_typing.specs.Growing.{Grows};
 ghost use Rattle.c_typing.specs.Scopes.{declaring, here, with_scopes};
 ghost use Rattle.c_typing.specs.Judging.{Answers, Gives, State, Stops, known};
 ghost use Rattle.c_check_expr.specs.Nests.{Nests};
@@ -82,6 +84,7 @@ fn plain(
         (known table scope.new) }
     ensures value { IfOk result (λ r. (all : TypedEnumerators)
         → last_value (typed_enumerator_view r.0 all) ≡ Some r.1) }
+    ensures grows { (table : Table) → Grows (known table scope.old) (known table scope.new) }
 {
     if is_taken(scope, name) {
         return Err(refusal(name.place, Rule::Redeclared));
@@ -136,9 +139,10 @@ fn declared_constant(
     z: i128,
 ) -> Result<(Identifier, i128), NoMemory>
     requires { here scope.old.scopes.levels name.now.bytes ≡ None }
-    ensures { IfOk result (λ r. (r.0 ≡ name.now) × (r.1 ≡ converted int z)
+    ensures answers { IfOk result (λ r. (r.0 ≡ name.now) × (r.1 ≡ converted int z)
         × (scope.new ≡ with_scopes scope.old (declaring name.now.bytes
         (declared.Enumerator (converted int z)) scope.old.scopes))) }
+    ensures grows { (table : Table) → Grows (known table scope.old) (known table scope.new) }
 {
     let value = converted(INT, z);
     scope.declare(name.bytes.as_slice(), Declared::Enumerator(value))?;
@@ -159,6 +163,7 @@ fn valued(
         result (known types.now scope.new) }
     ensures value { IfOk result (λ r. (all : TypedEnumerators)
         → last_value (typed_enumerator_view r.0 all) ≡ Some r.1) }
+    ensures grows { Grows (known types.now scope.old) (known types.now scope.new) }
 {
     let z = constant_of(scope, types, name, &v)?;
     let (name, value) = declared_constant(scope, name, z)?;
@@ -169,12 +174,12 @@ fn valued(
 }
 
 impl<
-    E: Fn(&mut Scope, &mut Types, u16, bool, &Expr) -> Result<Operand, Fault>,
-    S: Fn(&mut Scope, &mut Types, u16, &Specifiers) -> Result<TypedSpecifiers, Fault>,
-    D: Fn(&mut Scope, &mut Types, u16, Naming, Place, &Declarator) -> Result<TypedForm, Fault>,
+    E: Fn(&mut Scope, &mut Types, bool, &Expr) -> Result<Operand, Fault>,
+    S: Fn(&mut Scope, &mut Types, &Specifiers) -> Result<TypedSpecifiers, Fault>,
+    D: Fn(&mut Scope, &mut Types, Naming, Place, &Declarator) -> Result<TypedForm, Fault>,
 > Walker<E, S, D> {
     /// An enumerator after those that are judged, of which the last has this value.
-    #[tactic(auto, using(c_tree::proofs::ViewLaws::expr_views), unfolding(c_typing::specs::Walks::judge_enumerators, c_typing::specs::Walks::judge_value))]
+    #[tactic(auto, using(crate::proofs::NestLaws::nests, c_tree::proofs::ViewLaws::expr_views), unfolding(c_typing::specs::Walks::judge_enumerators, c_typing::specs::Walks::judge_value))]
     fn enumerator(
         &self,
         scope: &mut Scope,
@@ -182,10 +187,10 @@ impl<
         last: Option<i128>,
         e: &Enumerator,
     ) -> Result<(TypedEnumerator, i128), Fault>
-        requires nests { Nests self.now.depth (E.pre self.now.judge_expr)
-            (E.post self.now.judge_expr) (S.pre self.now.judge_specifiers)
-            (S.post self.now.judge_specifiers) (D.pre self.now.judge_form)
-            (D.post self.now.judge_form) }
+        requires nests { Nests (suc (enumerators_height (enumerator_view e.now NoEnumerator)))
+            (E.pre self.now.judge_expr) (E.post self.now.judge_expr)
+            (S.pre self.now.judge_specifiers) (S.post self.now.judge_specifiers)
+            (D.pre self.now.judge_form) (D.post self.now.judge_form) }
         ensures answers { (start : State) (before : Enumerators) (done : TypedEnumerators)
             → last_value done ≡ last → walks.judge_enumerators before start
             ≡ Gives done (known types.old scope.old) → Answers (λ r. typed_enumerator_view r.0 done)
@@ -193,6 +198,7 @@ impl<
             (known types.new scope.new) }
         ensures value { IfOk result (λ r. (done : TypedEnumerators)
             → last_value (typed_enumerator_view r.0 done) ≡ Some r.1) }
+        ensures grows { Grows (known types.old scope.old) (known types.new scope.new) }
     {
         match e {
             Enumerator::Plain(name) => plain(scope, last, name),
@@ -211,13 +217,15 @@ impl<
         types: &mut Types,
         list: &[Enumerator],
     ) -> Result<Items<TypedEnumerator>, Fault>
-        requires nests { Nests self.now.depth (E.pre self.now.judge_expr)
+        requires nests { Nests (suc (enumerators_height (added NoEnumerator
+            (map enumerator_view list.now)))) (E.pre self.now.judge_expr)
             (E.post self.now.judge_expr) (S.pre self.now.judge_specifiers)
             (S.post self.now.judge_specifiers) (D.pre self.now.judge_form)
             (D.post self.now.judge_form) }
-        ensures { Answers (λ r. added none_typed (map typed_enumerator_view r))
+        ensures answers { Answers (λ r. added none_typed (map typed_enumerator_view r))
             (walks.judge_enumerators (added NoEnumerator (map enumerator_view list.now))
             (known types.old scope.old)) result (known types.new scope.new) }
+        ensures grows { Grows (known types.old scope.old) (known types.new scope.new) }
     {
         let mut found = Items::new(scope.alloc());
         let mut last = None;

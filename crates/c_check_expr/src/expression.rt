@@ -1,10 +1,12 @@
 //! The rules of an expression, over those of its parts, which are judged in the order of the text (C99 6.5).
 #![tactic(auto)]
 
-ghost use Rattle.std.specs.Prelude.{◌≡◌, true, map};
+ghost use Rattle.std.specs.Prelude.{◌≡◌, true, map, suc};
+ghost use Rattle.c_tree.specs.Depth.{arguments_height, expr_height};
 ghost use Rattle.c_tree.specs.declared.operator.Assignment.TheVariants as assignment;
 ghost use Rattle.c_tree.specs.Tree as tree;
 ghost use Rattle.c_tree.specs.Views.{arguments_of, expr_view, type_name_view};
+ghost use Rattle.c_typing.specs.Growing.{Grows};
 ghost use Rattle.c_typing.specs.Judging.{Answers, known};
 ghost use Rattle.c_check_expr.specs.Nests.{Nests};
 ghost use Rattle.c_typing.specs.OperandViews.{operand_view, value_view};
@@ -34,12 +36,12 @@ use c_typing::typing::value;
 use cc_base::{Fault, Place};
 
 impl<
-    E: Fn(&mut Scope, &mut Types, u16, bool, &Expr) -> Result<Operand, Fault>,
-    S: Fn(&mut Scope, &mut Types, u16, &Specifiers) -> Result<TypedSpecifiers, Fault>,
-    D: Fn(&mut Scope, &mut Types, u16, Naming, Place, &Declarator) -> Result<TypedForm, Fault>,
+    E: Fn(&mut Scope, &mut Types, bool, &Expr) -> Result<Operand, Fault>,
+    S: Fn(&mut Scope, &mut Types, &Specifiers) -> Result<TypedSpecifiers, Fault>,
+    D: Fn(&mut Scope, &mut Types, Naming, Place, &Declarator) -> Result<TypedForm, Fault>,
 > Walker<E, S, D> {
     /// `a[b]`.
-    #[tactic(auto, unfolding(c_typing::specs::Walks::judge, c_typing::specs::Walks::judge_value))]
+    #[tactic(auto, using(crate::proofs::NestLaws::nests), unfolding(c_typing::specs::Walks::judge, c_typing::specs::Walks::judge_value))]
     fn index_layer(
         &self,
         scope: &mut Scope,
@@ -49,12 +51,14 @@ impl<
         at: Place,
         b: &Expr,
     ) -> Result<Operand, Fault>
-        requires nests { Nests self.now.depth (E.pre self.now.judge_expr)
-            (E.post self.now.judge_expr) (S.pre self.now.judge_specifiers)
-            (S.post self.now.judge_specifiers) (D.pre self.now.judge_form)
-            (D.post self.now.judge_form) }
-        ensures { Answers operand_view (walks.judge called (tree.Index (expr_view a.now) at
-            (expr_view b.now)) (known types.old scope.old)) result (known types.new scope.new) }
+        requires nests { Nests (expr_height (tree.Index (expr_view a.now) at (expr_view b.now)))
+            (E.pre self.now.judge_expr) (E.post self.now.judge_expr)
+            (S.pre self.now.judge_specifiers) (S.post self.now.judge_specifiers)
+            (D.pre self.now.judge_form) (D.post self.now.judge_form) }
+        ensures answers { Answers operand_view (walks.judge called
+            (tree.Index (expr_view a.now) at (expr_view b.now)) (known types.old scope.old)) result
+            (known types.new scope.new) }
+        ensures grows { Grows (known types.old scope.old) (known types.new scope.new) }
     {
         let x = self.value(scope, types, a)?;
         let y = self.value(scope, types, b)?;
@@ -62,7 +66,7 @@ impl<
     }
 
     /// An operator of two operands.
-    #[tactic(auto, unfolding(c_typing::specs::Walks::judge, c_typing::specs::Walks::judge_value))]
+    #[tactic(auto, using(crate::proofs::NestLaws::nests), unfolding(c_typing::specs::Walks::judge, c_typing::specs::Walks::judge_value))]
     fn infix_layer(
         &self,
         scope: &mut Scope,
@@ -73,12 +77,14 @@ impl<
         at: Place,
         b: &Expr,
     ) -> Result<Operand, Fault>
-        requires nests { Nests self.now.depth (E.pre self.now.judge_expr)
-            (E.post self.now.judge_expr) (S.pre self.now.judge_specifiers)
-            (S.post self.now.judge_specifiers) (D.pre self.now.judge_form)
-            (D.post self.now.judge_form) }
-        ensures { Answers operand_view (walks.judge called (tree.Infix operator (expr_view a.now) at
-            (expr_view b.now)) (known types.old scope.old)) result (known types.new scope.new) }
+        requires nests { Nests (expr_height (tree.Infix operator (expr_view a.now) at
+            (expr_view b.now))) (E.pre self.now.judge_expr) (E.post self.now.judge_expr)
+            (S.pre self.now.judge_specifiers) (S.post self.now.judge_specifiers)
+            (D.pre self.now.judge_form) (D.post self.now.judge_form) }
+        ensures answers { Answers operand_view (walks.judge called
+            (tree.Infix operator (expr_view a.now) at (expr_view b.now))
+            (known types.old scope.old)) result (known types.new scope.new) }
+        ensures grows { Grows (known types.old scope.old) (known types.new scope.new) }
     {
         let x = self.value(scope, types, a)?;
         let y = self.value(scope, types, b)?;
@@ -86,7 +92,7 @@ impl<
     }
 
     /// `,`.
-    #[tactic(auto, unfolding(c_typing::specs::Walks::judge, c_typing::specs::Walks::judge_value))]
+    #[tactic(auto, using(crate::proofs::NestLaws::nests), unfolding(c_typing::specs::Walks::judge, c_typing::specs::Walks::judge_value))]
     fn comma_layer(
         &self,
         scope: &mut Scope,
@@ -95,12 +101,14 @@ impl<
         a: &Expr,
         b: &Expr,
     ) -> Result<Operand, Fault>
-        requires nests { Nests self.now.depth (E.pre self.now.judge_expr)
-            (E.post self.now.judge_expr) (S.pre self.now.judge_specifiers)
-            (S.post self.now.judge_specifiers) (D.pre self.now.judge_form)
-            (D.post self.now.judge_form) }
-        ensures { Answers operand_view (walks.judge called (tree.Comma (expr_view a.now)
-            (expr_view b.now)) (known types.old scope.old)) result (known types.new scope.new) }
+        requires nests { Nests (expr_height (tree.Comma (expr_view a.now) (expr_view b.now)))
+            (E.pre self.now.judge_expr) (E.post self.now.judge_expr)
+            (S.pre self.now.judge_specifiers) (S.post self.now.judge_specifiers)
+            (D.pre self.now.judge_form) (D.post self.now.judge_form) }
+        ensures answers { Answers operand_view (walks.judge called
+            (tree.Comma (expr_view a.now) (expr_view b.now)) (known types.old scope.old)) result
+            (known types.new scope.new) }
+        ensures grows { Grows (known types.old scope.old) (known types.new scope.new) }
     {
         let x = self.value(scope, types, a)?;
         let y = self.value(scope, types, b)?;
@@ -118,12 +126,14 @@ impl<
         at: Place,
         e: &Expr,
     ) -> Result<Operand, Fault>
-        requires nests { Nests self.now.depth (E.pre self.now.judge_expr)
-            (E.post self.now.judge_expr) (S.pre self.now.judge_specifiers)
-            (S.post self.now.judge_specifiers) (D.pre self.now.judge_form)
-            (D.post self.now.judge_form) }
-        ensures { Answers operand_view (walks.judge called (tree.Prefix operator at
-            (expr_view e.now)) (known types.old scope.old)) result (known types.new scope.new) }
+        requires nests { Nests (expr_height (tree.Prefix operator at (expr_view e.now)))
+            (E.pre self.now.judge_expr) (E.post self.now.judge_expr)
+            (S.pre self.now.judge_specifiers) (S.post self.now.judge_specifiers)
+            (D.pre self.now.judge_form) (D.post self.now.judge_form) }
+        ensures answers { Answers operand_view (walks.judge called
+            (tree.Prefix operator at (expr_view e.now)) (known types.old scope.old)) result
+            (known types.new scope.new) }
+        ensures grows { Grows (known types.old scope.old) (known types.new scope.new) }
     {
         let x = self.expr(scope, types, false, e)?;
         prefix(scope, types, operator, at, x)
@@ -140,20 +150,21 @@ impl<
         operator: Step,
         at: Place,
     ) -> Result<Operand, Fault>
-        requires nests { Nests self.now.depth (E.pre self.now.judge_expr)
-            (E.post self.now.judge_expr) (S.pre self.now.judge_specifiers)
-            (S.post self.now.judge_specifiers) (D.pre self.now.judge_form)
-            (D.post self.now.judge_form) }
-        ensures { Answers operand_view (walks.judge called (tree.Postfix
-            (expr_view e.now) operator at) (known types.old scope.old)) result
+        requires nests { Nests (expr_height (tree.Postfix (expr_view e.now) operator at))
+            (E.pre self.now.judge_expr) (E.post self.now.judge_expr)
+            (S.pre self.now.judge_specifiers) (S.post self.now.judge_specifiers)
+            (D.pre self.now.judge_form) (D.post self.now.judge_form) }
+        ensures answers { Answers operand_view (walks.judge called
+            (tree.Postfix (expr_view e.now) operator at) (known types.old scope.old)) result
             (known types.new scope.new) }
+        ensures grows { Grows (known types.old scope.old) (known types.new scope.new) }
     {
         let x = self.expr(scope, types, false, e)?;
         step_after(scope, types, operator, at, x)
     }
 
     /// `?:`.
-    #[tactic(auto, unfolding(c_typing::specs::Walks::judge, c_typing::specs::Walks::judge_value))]
+    #[tactic(auto, using(crate::proofs::NestLaws::nests), unfolding(c_typing::specs::Walks::judge, c_typing::specs::Walks::judge_value))]
     fn conditional_layer(
         &self,
         scope: &mut Scope,
@@ -164,13 +175,14 @@ impl<
         a: &Expr,
         b: &Expr,
     ) -> Result<Operand, Fault>
-        requires nests { Nests self.now.depth (E.pre self.now.judge_expr)
-            (E.post self.now.judge_expr) (S.pre self.now.judge_specifiers)
-            (S.post self.now.judge_specifiers) (D.pre self.now.judge_form)
-            (D.post self.now.judge_form) }
-        ensures { Answers operand_view (walks.judge called (tree.Conditional (expr_view c.now) at
-            (expr_view a.now) (expr_view b.now)) (known types.old scope.old)) result
-            (known types.new scope.new) }
+        requires nests { Nests (expr_height (tree.Conditional (expr_view c.now) at (expr_view a.now)
+            (expr_view b.now))) (E.pre self.now.judge_expr) (E.post self.now.judge_expr)
+            (S.pre self.now.judge_specifiers) (S.post self.now.judge_specifiers)
+            (D.pre self.now.judge_form) (D.post self.now.judge_form) }
+        ensures answers { Answers operand_view (walks.judge called
+            (tree.Conditional (expr_view c.now) at (expr_view a.now) (expr_view b.now))
+            (known types.old scope.old)) result (known types.new scope.new) }
+        ensures grows { Grows (known types.old scope.old) (known types.new scope.new) }
     {
         let z = self.value(scope, types, c)?;
         let x = self.value(scope, types, a)?;
@@ -179,7 +191,7 @@ impl<
     }
 
     /// `=`.
-    #[tactic(auto, unfolding(c_typing::specs::Walks::judge, c_typing::specs::Walks::judge_value))]
+    #[tactic(auto, using(crate::proofs::NestLaws::nests), unfolding(c_typing::specs::Walks::judge, c_typing::specs::Walks::judge_value))]
     fn assign_layer(
         &self,
         scope: &mut Scope,
@@ -189,13 +201,14 @@ impl<
         at: Place,
         b: &Expr,
     ) -> Result<Operand, Fault>
-        requires nests { Nests self.now.depth (E.pre self.now.judge_expr)
-            (E.post self.now.judge_expr) (S.pre self.now.judge_specifiers)
-            (S.post self.now.judge_specifiers) (D.pre self.now.judge_form)
-            (D.post self.now.judge_form) }
-        ensures { Answers operand_view (walks.judge called (tree.Assign assignment.Assign
-            (expr_view a.now) at (expr_view b.now)) (known types.old scope.old)) result
-            (known types.new scope.new) }
+        requires nests { Nests (expr_height (tree.Assign assignment.Assign (expr_view a.now) at
+            (expr_view b.now))) (E.pre self.now.judge_expr) (E.post self.now.judge_expr)
+            (S.pre self.now.judge_specifiers) (S.post self.now.judge_specifiers)
+            (D.pre self.now.judge_form) (D.post self.now.judge_form) }
+        ensures answers { Answers operand_view (walks.judge called
+            (tree.Assign assignment.Assign (expr_view a.now) at (expr_view b.now))
+            (known types.old scope.old)) result (known types.new scope.new) }
+        ensures grows { Grows (known types.old scope.old) (known types.new scope.new) }
     {
         let x = self.expr(scope, types, false, a)?;
         let y = self.expr(scope, types, false, b)?;
@@ -203,7 +216,7 @@ impl<
     }
 
     /// A compound assignment.
-    #[tactic(auto, using(crate::proofs::ExprLaws::update_judged))]
+    #[tactic(auto, using(crate::proofs::NestLaws::nests, crate::proofs::ExprLaws::update_judged))]
     fn update_layer(
         &self,
         scope: &mut Scope,
@@ -215,13 +228,14 @@ impl<
         b: &Expr,
     ) -> Result<Operand, Fault>
         requires compound { rules.is_compound operator ≡ true }
-        requires nests { Nests self.now.depth (E.pre self.now.judge_expr)
-            (E.post self.now.judge_expr) (S.pre self.now.judge_specifiers)
-            (S.post self.now.judge_specifiers) (D.pre self.now.judge_form)
-            (D.post self.now.judge_form) }
-        ensures { Answers operand_view (walks.judge called (tree.Assign operator
-            (expr_view a.now) at (expr_view b.now)) (known types.old scope.old)) result
-            (known types.new scope.new) }
+        requires nests { Nests (expr_height (tree.Assign operator (expr_view a.now) at
+            (expr_view b.now))) (E.pre self.now.judge_expr) (E.post self.now.judge_expr)
+            (S.pre self.now.judge_specifiers) (S.post self.now.judge_specifiers)
+            (D.pre self.now.judge_form) (D.post self.now.judge_form) }
+        ensures answers { Answers operand_view (walks.judge called
+            (tree.Assign operator (expr_view a.now) at (expr_view b.now))
+            (known types.old scope.old)) result (known types.new scope.new) }
+        ensures grows { Grows (known types.old scope.old) (known types.new scope.new) }
     {
         let x = self.expr(scope, types, false, a)?;
         let y = self.value(scope, types, b)?;
@@ -239,20 +253,21 @@ impl<
         paren: Place,
         name: &TypeName,
     ) -> Result<Operand, Fault>
-        requires nests { Nests self.now.depth (E.pre self.now.judge_expr)
-            (E.post self.now.judge_expr) (S.pre self.now.judge_specifiers)
-            (S.post self.now.judge_specifiers) (D.pre self.now.judge_form)
-            (D.post self.now.judge_form) }
-        ensures { Answers operand_view (walks.judge called (tree.SizeOfType at paren
-            (type_name_view name.now)) (known types.old scope.old)) result
+        requires nests { Nests (expr_height (tree.SizeOfType at paren (type_name_view name.now)))
+            (E.pre self.now.judge_expr) (E.post self.now.judge_expr)
+            (S.pre self.now.judge_specifiers) (S.post self.now.judge_specifiers)
+            (D.pre self.now.judge_form) (D.post self.now.judge_form) }
+        ensures answers { Answers operand_view (walks.judge called
+            (tree.SizeOfType at paren (type_name_view name.now)) (known types.old scope.old)) result
             (known types.new scope.new) }
+        ensures grows { Grows (known types.old scope.old) (known types.new scope.new) }
     {
         let name = self.type_name(scope, types, name)?;
         size_of_type(scope, types, at, paren, name)
     }
 
     /// A cast.
-    #[tactic(auto, unfolding(c_typing::specs::Walks::judge, c_typing::specs::Walks::judge_value))]
+    #[tactic(auto, using(crate::proofs::NestLaws::nests), unfolding(c_typing::specs::Walks::judge, c_typing::specs::Walks::judge_value))]
     fn cast_layer(
         &self,
         scope: &mut Scope,
@@ -262,12 +277,14 @@ impl<
         name: &TypeName,
         e: &Expr,
     ) -> Result<Operand, Fault>
-        requires nests { Nests self.now.depth (E.pre self.now.judge_expr)
-            (E.post self.now.judge_expr) (S.pre self.now.judge_specifiers)
-            (S.post self.now.judge_specifiers) (D.pre self.now.judge_form)
-            (D.post self.now.judge_form) }
-        ensures { Answers operand_view (walks.judge called (tree.Cast at (type_name_view name.now)
-            (expr_view e.now)) (known types.old scope.old)) result (known types.new scope.new) }
+        requires nests { Nests (expr_height (tree.Cast at (type_name_view name.now)
+            (expr_view e.now))) (E.pre self.now.judge_expr) (E.post self.now.judge_expr)
+            (S.pre self.now.judge_specifiers) (S.post self.now.judge_specifiers)
+            (D.pre self.now.judge_form) (D.post self.now.judge_form) }
+        ensures answers { Answers operand_view (walks.judge called
+            (tree.Cast at (type_name_view name.now) (expr_view e.now)) (known types.old scope.old))
+            result (known types.new scope.new) }
+        ensures grows { Grows (known types.old scope.old) (known types.new scope.new) }
     {
         let to = self.type_name(scope, types, name)?;
         let x = self.expr(scope, types, false, e)?;
@@ -284,12 +301,13 @@ impl<
         at: Place,
         e: &Expr,
     ) -> Result<Operand, Fault>
-        requires nests { Nests self.now.depth (E.pre self.now.judge_expr)
-            (E.post self.now.judge_expr) (S.pre self.now.judge_specifiers)
-            (S.post self.now.judge_specifiers) (D.pre self.now.judge_form)
-            (D.post self.now.judge_form) }
-        ensures { Answers operand_view (walks.judge called (tree.Paren at (expr_view e.now))
+        requires nests { Nests (expr_height (tree.Paren at (expr_view e.now)))
+            (E.pre self.now.judge_expr) (E.post self.now.judge_expr)
+            (S.pre self.now.judge_specifiers) (S.post self.now.judge_specifiers)
+            (D.pre self.now.judge_form) (D.post self.now.judge_form) }
+        ensures answers { Answers operand_view (walks.judge called (tree.Paren at (expr_view e.now))
             (known types.old scope.old)) result (known types.new scope.new) }
+        ensures grows { Grows (known types.old scope.old) (known types.new scope.new) }
     {
         let x = self.expr(scope, types, called, e)?;
         paren(scope, types, at, x)
@@ -307,13 +325,14 @@ impl<
         at: Place,
         word: &Identifier,
     ) -> Result<Operand, Fault>
-        requires nests { Nests self.now.depth (E.pre self.now.judge_expr)
-            (E.post self.now.judge_expr) (S.pre self.now.judge_specifiers)
-            (S.post self.now.judge_specifiers) (D.pre self.now.judge_form)
-            (D.post self.now.judge_form) }
-        ensures { Answers operand_view (walks.judge called (tree.Member
-            (expr_view e.now) operator at word.now) (known types.old scope.old)) result
+        requires nests { Nests (expr_height (tree.Member (expr_view e.now) operator at word.now))
+            (E.pre self.now.judge_expr) (E.post self.now.judge_expr)
+            (S.pre self.now.judge_specifiers) (S.post self.now.judge_specifiers)
+            (D.pre self.now.judge_form) (D.post self.now.judge_form) }
+        ensures answers { Answers operand_view (walks.judge called
+            (tree.Member (expr_view e.now) operator at word.now) (known types.old scope.old)) result
             (known types.new scope.new) }
+        ensures grows { Grows (known types.old scope.old) (known types.new scope.new) }
     {
         match operator {
             MemberOperator::Dot => {
@@ -335,13 +354,14 @@ impl<
         types: &mut Types,
         list: &[Expr],
     ) -> Result<Vec<Value>, Fault>
-        requires nests { Nests self.now.depth (E.pre self.now.judge_expr)
-            (E.post self.now.judge_expr) (S.pre self.now.judge_specifiers)
-            (S.post self.now.judge_specifiers) (D.pre self.now.judge_form)
-            (D.post self.now.judge_form) }
-        ensures { Answers (λ values. map value_view values.items)
+        requires nests { Nests (suc (arguments_height (arguments_of (map expr_view list.now))))
+            (E.pre self.now.judge_expr) (E.post self.now.judge_expr)
+            (S.pre self.now.judge_specifiers) (S.post self.now.judge_specifiers)
+            (D.pre self.now.judge_form) (D.post self.now.judge_form) }
+        ensures answers { Answers (λ values. map value_view values.items)
             (walks.judge_arguments (arguments_of (map expr_view list.now))
             (known types.old scope.old)) result (known types.new scope.new) }
+        ensures grows { Grows (known types.old scope.old) (known types.new scope.new) }
     {
         let mut values = Vec::new(scope.alloc());
         for e in list {
@@ -351,7 +371,7 @@ impl<
     }
 
     /// A call.
-    #[tactic(auto, unfolding(c_typing::specs::Walks::judge))]
+    #[tactic(auto, using(crate::proofs::NestLaws::nests), unfolding(c_typing::specs::Walks::judge))]
     fn call_layer(
         &self,
         scope: &mut Scope,
@@ -361,13 +381,15 @@ impl<
         at: Place,
         arguments: &[Expr],
     ) -> Result<Operand, Fault>
-        requires nests { Nests self.now.depth (E.pre self.now.judge_expr)
+        requires nests { Nests (expr_height (tree.Call (expr_view f.now) at
+            (arguments_of (map expr_view arguments.now)))) (E.pre self.now.judge_expr)
             (E.post self.now.judge_expr) (S.pre self.now.judge_specifiers)
             (S.post self.now.judge_specifiers) (D.pre self.now.judge_form)
             (D.post self.now.judge_form) }
-        ensures { Answers operand_view (walks.judge called (tree.Call (expr_view f.now) at
-            (arguments_of (map expr_view arguments.now))) (known types.old scope.old)) result
-            (known types.new scope.new) }
+        ensures answers { Answers operand_view (walks.judge called
+            (tree.Call (expr_view f.now) at (arguments_of (map expr_view arguments.now)))
+            (known types.old scope.old)) result (known types.new scope.new) }
+        ensures grows { Grows (known types.old scope.old) (known types.new scope.new) }
     {
         let x = self.expr(scope, types, true, f)?;
         let f = value(scope, types, x)?;
@@ -386,13 +408,14 @@ impl<
         at: Place,
         b: &Expr,
     ) -> Result<Operand, Fault>
-        requires nests { Nests self.now.depth (E.pre self.now.judge_expr)
-            (E.post self.now.judge_expr) (S.pre self.now.judge_specifiers)
-            (S.post self.now.judge_specifiers) (D.pre self.now.judge_form)
-            (D.post self.now.judge_form) }
-        ensures { Answers operand_view (walks.judge called (tree.Assign operator
-            (expr_view a.now) at (expr_view b.now)) (known types.old scope.old)) result
-            (known types.new scope.new) }
+        requires nests { Nests (expr_height (tree.Assign operator (expr_view a.now) at
+            (expr_view b.now))) (E.pre self.now.judge_expr) (E.post self.now.judge_expr)
+            (S.pre self.now.judge_specifiers) (S.post self.now.judge_specifiers)
+            (D.pre self.now.judge_form) (D.post self.now.judge_form) }
+        ensures answers { Answers operand_view (walks.judge called
+            (tree.Assign operator (expr_view a.now) at (expr_view b.now))
+            (known types.old scope.old)) result (known types.new scope.new) }
+        ensures grows { Grows (known types.old scope.old) (known types.new scope.new) }
     {
         match operator {
             Assignment::Assign => self.assign_layer(scope, types, called, a, at, b),
@@ -409,12 +432,13 @@ impl<
         called: bool,
         e: &Expr,
     ) -> Result<Operand, Fault>
-        requires nests { Nests self.now.depth (E.pre self.now.judge_expr)
+        requires nests { Nests (expr_height (expr_view e.now)) (E.pre self.now.judge_expr)
             (E.post self.now.judge_expr) (S.pre self.now.judge_specifiers)
             (S.post self.now.judge_specifiers) (D.pre self.now.judge_form)
             (D.post self.now.judge_form) }
-        ensures { Answers operand_view (walks.judge called (expr_view e.now)
+        ensures answers { Answers operand_view (walks.judge called (expr_view e.now)
             (known types.old scope.old)) result (known types.new scope.new) }
+        ensures grows { Grows (known types.old scope.old) (known types.new scope.new) }
     {
         match e {
             Expr::Name(word) => name(scope, types, called, word),
@@ -429,7 +453,7 @@ impl<
                 self.call_layer(scope, types, called, f.get(), *at, arguments.as_slice())
             }
             Expr::Member(e, operator, at, word) => {
-                self.member_layer(scope, types, called, e.get(), *operator, *at, word)
+                self.member_layer(scope, types, called, e.get(), *operator, *at, word.get())
             }
             Expr::Postfix(e, step, at) => {
                 self.postfix_layer(scope, types, called, e.get(), *step, *at)

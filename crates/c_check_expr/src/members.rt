@@ -1,7 +1,8 @@
 //! Rows of members (C99 6.7.2.1).
 #![tactic(auto)]
 
-ghost use Rattle.std.specs.Prelude.{◌≡◌, ◌++◌, ◌∷◌, [], false, None, Some, IfOk, List, map, option_copied};
+ghost use Rattle.std.specs.Prelude.{◌≡◌, ◌++◌, ◌∷◌, [], false, None, Some, IfOk, List, map, option_copied, suc};
+ghost use Rattle.c_tree.specs.Depth.{declarator_height, member_declarators_height, members_height};
 ghost use Rattle.c_tree.specs.Tree as tree;
 ghost use Rattle.c_tree.specs.Tree.{NoMember, MemberDeclarators, AndDeclarator as and_declarator};
 ghost use Rattle.c_tree.specs.TypedParts.{name_of};
@@ -11,6 +12,7 @@ ghost use Rattle.c_tree.specs.Views.{added, declarator_view, members_view, membe
 ghost use Rattle.c_tree.specs.TypedViews.{typed_declarator_view, typed_form_view, typed_members_view, typed_member_declarators_of};
 ghost use Rattle.c_typing.specs.Declarators.{declarator_names, member_names, name_bytes};
 ghost use Rattle.c_typing.specs.Declaring as declaring;
+ghost use Rattle.c_typing.specs.Growing.{Grows};
 ghost use Rattle.c_typing.specs.Judging.{Answers, Gives, State, known};
 ghost use Rattle.c_check_expr.specs.Nests.{Nests};
 ghost use Rattle.c_typing.specs.Refusals.{has_name};
@@ -45,8 +47,9 @@ fn member_type(
     form: &TypedForm,
     base: TypeId,
 ) -> Result<TypeId, Fault>
-    ensures { Answers (λ t. t) (declaring.member_type at (typed_form_view form.now) base
+    ensures answers { Answers (λ t. t) (declaring.member_type at (typed_form_view form.now) base
         (known types.old scope.now)) result (known types.new scope.now) }
+    ensures grows { Grows (known types.old scope.now) (known types.new scope.now) }
 {
     let t = form_makes(scope, types, at, Nearest::Written, form, base)?;
     if !is_complete_at(scope, types, t) {
@@ -80,6 +83,7 @@ fn member_named(
         (option_copied name.entry) (known types.old scope.now)) result (known types.new scope.now) }
     ensures named { IfOk result (λ t. names.new ≡ names.old ++ name_bytes
         (option_copied name.entry) ∷ []) }
+    ensures grows { Grows (known types.old scope.now) (known types.new scope.now) }
 {
     let Some(name) = name else {
         return Err(no_room(NOWHERE));
@@ -93,9 +97,9 @@ fn member_named(
 }
 
 impl<
-    E: Fn(&mut Scope, &mut Types, u16, bool, &Expr) -> Result<Operand, Fault>,
-    S: Fn(&mut Scope, &mut Types, u16, &Specifiers) -> Result<TypedSpecifiers, Fault>,
-    D: Fn(&mut Scope, &mut Types, u16, Naming, Place, &Declarator) -> Result<TypedForm, Fault>,
+    E: Fn(&mut Scope, &mut Types, bool, &Expr) -> Result<Operand, Fault>,
+    S: Fn(&mut Scope, &mut Types, &Specifiers) -> Result<TypedSpecifiers, Fault>,
+    D: Fn(&mut Scope, &mut Types, Naming, Place, &Declarator) -> Result<TypedForm, Fault>,
 > Walker<E, S, D> {
     /// A member after those of its row; its name is added to those before it.
     #[tactic(auto, using(c_tree::proofs::TypedViewLaws::typed_views, crate::proofs::NameLaws::form_name_kept), unfolding(c_typing::specs::Walks::judge_member_declarators))]
@@ -107,10 +111,10 @@ impl<
         base: TypeId,
         d: &Declarator,
     ) -> Result<TypedDeclarator, Fault>
-        requires nests { Nests self.now.depth (E.pre self.now.judge_expr)
-            (E.post self.now.judge_expr) (S.pre self.now.judge_specifiers)
-            (S.post self.now.judge_specifiers) (D.pre self.now.judge_form)
-            (D.post self.now.judge_form) }
+        requires nests { Nests (suc (declarator_height (declarator_view d.now)))
+            (E.pre self.now.judge_expr) (E.post self.now.judge_expr)
+            (S.pre self.now.judge_specifiers) (S.post self.now.judge_specifiers)
+            (D.pre self.now.judge_form) (D.post self.now.judge_form) }
         ensures answers { (start : State) (first : List Name) (before : MemberDeclarators)
             (done : TypedMemberDeclarators) → first ++ declarator_names done ≡ names.old
             → walks.judge_member_declarators base first before start
@@ -120,6 +124,7 @@ impl<
             (declarator_view d.now)) start) result (known types.new scope.new) }
         ensures named { IfOk result (λ made. names.new ≡ names.old ++ name_bytes
             (name_of (typed_declarator_view made)) ∷ []) }
+        ensures grows { Grows (known types.old scope.old) (known types.new scope.new) }
     {
         let name = declarator_name(d);
         let form = self.form(scope, types, Naming::None, name_place(name, NOWHERE), d)?;
@@ -141,7 +146,8 @@ impl<
         base: TypeId,
         list: &[Declarator],
     ) -> Result<Items<TypedDeclarator>, Fault>
-        requires nests { Nests self.now.depth (E.pre self.now.judge_expr)
+        requires nests { Nests (suc (member_declarators_height
+            (member_declarators_of (map declarator_view list.now)))) (E.pre self.now.judge_expr)
             (E.post self.now.judge_expr) (S.pre self.now.judge_specifiers)
             (S.post self.now.judge_specifiers) (D.pre self.now.judge_form)
             (D.post self.now.judge_form) }
@@ -151,6 +157,7 @@ impl<
             result (known types.new scope.new) }
         ensures named { IfOk result (λ found. names.new ≡ names.old ++ declarator_names
             (typed_member_declarators_of (map typed_declarator_view found))) }
+        ensures grows { Grows (known types.old scope.old) (known types.new scope.new) }
     {
         let mut found = Items::new(scope.alloc());
         for d in list {
@@ -160,7 +167,7 @@ impl<
     }
 
     /// A row after those that are judged, whose names are these.
-    #[tactic(auto, using(c_tree::proofs::ViewLaws::expr_views, c_tree::proofs::TypedViewLaws::typed_views), unfolding(c_typing::specs::Walks::judge_members))]
+    #[tactic(auto, using(crate::proofs::NestLaws::nests, c_tree::proofs::ViewLaws::expr_views, c_tree::proofs::TypedViewLaws::typed_views), unfolding(c_typing::specs::Walks::judge_members))]
     fn members_row(
         &self,
         scope: &mut Scope,
@@ -168,10 +175,10 @@ impl<
         names: &mut MemberNames,
         row: &Members,
     ) -> Result<TypedMembers, Fault>
-        requires nests { Nests self.now.depth (E.pre self.now.judge_expr)
-            (E.post self.now.judge_expr) (S.pre self.now.judge_specifiers)
-            (S.post self.now.judge_specifiers) (D.pre self.now.judge_form)
-            (D.post self.now.judge_form) }
+        requires nests { Nests (suc (members_height (members_view row.now tree.NoMember)))
+            (E.pre self.now.judge_expr) (E.post self.now.judge_expr)
+            (S.pre self.now.judge_specifiers) (S.post self.now.judge_specifiers)
+            (D.pre self.now.judge_form) (D.post self.now.judge_form) }
         ensures answers { (start : State) (before : tree.Members) (done : typed.TypedMembers)
             → member_names done ≡ names.old → walks.judge_members before start
             ≡ Gives done (known types.old scope.old) → Answers
@@ -179,6 +186,7 @@ impl<
             (members_view row.now before) start) result (known types.new scope.new) }
         ensures named { IfOk result (λ made. (done : typed.TypedMembers) → member_names done
             ≡ names.old → member_names (typed_members_view made done) ≡ names.new) }
+        ensures grows { Grows (known types.old scope.old) (known types.new scope.new) }
     {
         let specifiers = self.specifiers(scope, types, &row.specifiers)?;
         let base = specifiers.ty;
@@ -198,16 +206,17 @@ impl<
         names: &mut MemberNames,
         rows: &[Members],
     ) -> Result<Items<TypedMembers>, Fault>
-        requires nests { Nests self.now.depth (E.pre self.now.judge_expr)
-            (E.post self.now.judge_expr) (S.pre self.now.judge_specifiers)
-            (S.post self.now.judge_specifiers) (D.pre self.now.judge_form)
-            (D.post self.now.judge_form) }
+        requires nests { Nests (suc (members_height (added NoMember (map members_view rows.now))))
+            (E.pre self.now.judge_expr) (E.post self.now.judge_expr)
+            (S.pre self.now.judge_specifiers) (S.post self.now.judge_specifiers)
+            (D.pre self.now.judge_form) (D.post self.now.judge_form) }
         ensures answers { member_names no_typed_member ≡ names.old
             → Answers (λ found. added no_typed_member (map typed_members_view found))
             (walks.judge_members (added NoMember (map members_view rows.now))
             (known types.old scope.old)) result (known types.new scope.new) }
         ensures named { IfOk result (λ found. member_names no_typed_member ≡ names.old
             → member_names (added no_typed_member (map typed_members_view found)) ≡ names.new) }
+        ensures grows { Grows (known types.old scope.old) (known types.new scope.new) }
     {
         let mut found = Items::new(scope.alloc());
         for row in rows {

@@ -1,16 +1,18 @@
 //! Parameters (C99 6.7.5.3).
 #![tactic(auto)]
 
-ghost use Rattle.std.specs.Prelude.{◌≡◌, ◌≢◌, false, Some, None, IfSome, IfOk, IfErr, map, option_map, option_copied};
+ghost use Rattle.std.specs.Prelude.{◌≡◌, ◌≢◌, false, Some, None, IfSome, IfOk, IfErr, map, option_map, option_copied, suc};
 ghost use Rattle.cc_base.specs.declared.fault.Fault.TheVariants.{NoMemory as no_memory};
 ghost use Rattle.c_types.specs.Table.{Table, shape_at};
 ghost use Rattle.c_tree.specs.TypedParts.{declared_home};
+ghost use Rattle.c_tree.specs.Depth.{parameters_height};
 ghost use Rattle.c_tree.specs.Tree.{Parameters, NoParameter, AndParameter, NotDeclared, Specifiers as PlainSpecifiers, AndSpecifier};
 ghost use Rattle.c_tree.specs.TypedTree.{TypedParameters, NoParameter as no_typed_parameter};
 ghost use Rattle.c_tree.specs.Views.{added, declarator_view, declared_of, parameter_view, specifier_view, specifiers_of, specifiers_view};
 ghost use Rattle.c_tree.specs.TypedViews.{typed_form_view, typed_declared_of, typed_parameter_view, typed_specifiers_view};
 ghost use Rattle.c_typing.specs.Declarators.{is_derived_declared};
 ghost use Rattle.c_typing.specs.Declaring as declaring;
+ghost use Rattle.c_typing.specs.Growing.{Grows, GrowsAny, GrowsOrLeaves};
 ghost use Rattle.c_typing.specs.Judging.{Answers, Gives, State, known, next};
 ghost use Rattle.c_typing.specs.KindViews.{shape_or_void};
 ghost use Rattle.c_check_expr.specs.Nests.{Nests};
@@ -64,8 +66,9 @@ fn adjusted_shape(
     node: NodeId,
     base: TypeId,
 ) -> Result<TypeId, Fault>
-    ensures { Answers (λ t. t) (declaring.adjusted_shape at node base (shape_at types.old base)
-        (known types.old scope.now)) result (known types.new scope.now) }
+    ensures answers { Answers (λ t. t) (declaring.adjusted_shape at node base
+        (shape_at types.old base) (known types.old scope.now)) result (known types.new scope.now) }
+    ensures grows { Grows (known types.old scope.now) (known types.new scope.now) }
 {
     let to = match shape_at(types, base) {
         Some(TypeShape::Array(element, _)) => *element,
@@ -85,9 +88,10 @@ fn parameter_makes(
     d: Option<&TypedForm>,
     base: TypeId,
 ) -> Result<TypeId, Fault>
-    ensures { Answers (λ t. t) (declaring.parameter_makes at adjusted
+    ensures answers { Answers (λ t. t) (declaring.parameter_makes at adjusted
         (typed_declared_of (option_map typed_form_view (option_copied d.entry))) base
         (known types.old scope.now)) result (known types.new scope.now) }
+    ensures grows { Grows (known types.old scope.now) (known types.new scope.now) }
 {
     match adjusted {
         None => declared_makes(scope, types, at, Nearest::Written, d, base),
@@ -112,6 +116,7 @@ fn adjusted_with_node(
         (declaring.adjusted_with_node at place (known table scope.old)) result
         (known table scope.new) }
     ensures same { scope.new.scopes ≡ scope.old.scopes }
+    ensures grows { (table : Table) → Grows (known table scope.old) (known table scope.new) }
 {
     match place {
         None => Ok(None),
@@ -156,8 +161,9 @@ fn parameter_declared(
     t: TypeId,
 ) -> Result<TypeId, Fault>
     requires { is_here scope.old.scopes (option_copied name) ≡ false }
-    ensures { (table : Table) → Answers (λ t. t) (declaring.parameter_declared at
+    ensures answers { (table : Table) → Answers (λ t. t) (declaring.parameter_declared at
         (option_copied name.entry) home t (known table scope.old)) result (known table scope.new) }
+    ensures grows { (table : Table) → GrowsAny (known table scope.old) (known table scope.new) }
 {
     match name {
         None => Ok(t),
@@ -232,11 +238,13 @@ fn declared_type(
 ) -> Result<TypeId, Fault>
     requires { is_here scope.old.scopes (declared_identifier
         (typed_declared_of (option_map typed_form_view (option_copied d)))) ≡ false }
-    ensures { let one = typed_declared_of (option_map typed_form_view (option_copied d.entry)) in
-        Answers (λ t. t) (next (declaring.parameter_makes at adjusted one base
-        (known types.old scope.old)) (λ t. obeying (λ s. tests.parameter_type_tests s.table
-        s.seen.scopes void t at) (declaring.parameter_declared at (declared_identifier one)
-        (declared_home one) t))) result (known types.new scope.new) }
+    ensures answers { let one = typed_declared_of (option_map typed_form_view
+        (option_copied d.entry)) in Answers (λ t. t) (next
+        (declaring.parameter_makes at adjusted one base (known types.old scope.old))
+        (λ t. obeying (λ s. tests.parameter_type_tests s.table s.seen.scopes void t at)
+        (declaring.parameter_declared at (declared_identifier one) (declared_home one) t))) result
+        (known types.new scope.new) }
+    ensures grows { GrowsAny (known types.old scope.old) (known types.new scope.new) }
 {
     let t = parameter_makes(scope, types, at, adjusted, d, base)?;
     if let Some(fault) = type_fault(scope, types, void, t, at) {
@@ -257,11 +265,12 @@ fn made_parameter(
     specifiers: TypedSpecifiers,
     declarator: Option<TypedForm>,
 ) -> Result<TypedParameter, Fault>
-    ensures { (all : TypedParameters) → Answers (λ made. typed_parameter_view made all)
+    ensures answers { (all : TypedParameters) → Answers (λ made. typed_parameter_view made all)
         (declaring.parameter void at (λ base. declaring.adjusted_at
         (derived_view derived) base named) all (typed_specifiers_view specifiers)
         (typed_declared_of (option_map typed_form_view declarator)) (known types.old scope.old))
         result (known types.new scope.new) }
+    ensures grows { GrowsAny (known types.old scope.old) (known types.new scope.new) }
 {
     let d = declarator.as_ref();
     if is_here(scope, declared_name(d)) {
@@ -279,10 +288,20 @@ fn made_parameter(
     })
 }
 
+/// The innermost scope is left, unless it is the file's.
+fn leave_innermost(scope: &mut Scope)
+    ensures { (table : Table) → known table scope.new
+        ≡ declaring.once_left (known table scope.old) }
+{
+    if scope.depth() > 1 {
+        scope.leave();
+    }
+}
+
 impl<
-    E: Fn(&mut Scope, &mut Types, u16, bool, &Expr) -> Result<Operand, Fault>,
-    S: Fn(&mut Scope, &mut Types, u16, &Specifiers) -> Result<TypedSpecifiers, Fault>,
-    D: Fn(&mut Scope, &mut Types, u16, Naming, Place, &Declarator) -> Result<TypedForm, Fault>,
+    E: Fn(&mut Scope, &mut Types, bool, &Expr) -> Result<Operand, Fault>,
+    S: Fn(&mut Scope, &mut Types, &Specifiers) -> Result<TypedSpecifiers, Fault>,
+    D: Fn(&mut Scope, &mut Types, Naming, Place, &Declarator) -> Result<TypedForm, Fault>,
 > Walker<E, S, D> {
     /// A parameter after those that are judged.
     #[tactic(auto, using(c_tree::proofs::ViewLaws::expr_views, c_tree::proofs::TypedViewLaws::typed_views), unfolding(c_typing::specs::Walks::judge_parameters))]
@@ -293,15 +312,16 @@ impl<
         void: bool,
         one: &Parameter,
     ) -> Result<TypedParameter, Fault>
-        requires nests { Nests self.now.depth (E.pre self.now.judge_expr)
-            (E.post self.now.judge_expr) (S.pre self.now.judge_specifiers)
-            (S.post self.now.judge_specifiers) (D.pre self.now.judge_form)
-            (D.post self.now.judge_form) }
-        ensures { (start : State) (before : Parameters) (done : TypedParameters)
+        requires nests { Nests (suc (parameters_height (parameter_view one.now NoParameter)))
+            (E.pre self.now.judge_expr) (E.post self.now.judge_expr)
+            (S.pre self.now.judge_specifiers) (S.post self.now.judge_specifiers)
+            (D.pre self.now.judge_form) (D.post self.now.judge_form) }
+        ensures answers { (start : State) (before : Parameters) (done : TypedParameters)
             → walks.judge_parameters void before start ≡ Gives done (known types.old scope.old)
             → Answers (λ made. typed_parameter_view made done)
             (walks.judge_parameters void (parameter_view one.now before) start) result
             (known types.new scope.new) }
+        ensures grows { GrowsAny (known types.old scope.old) (known types.new scope.new) }
     {
         let at = declared_place(&one.specifiers, &one.declarator);
         let specifiers = self.specifiers(scope, types, &one.specifiers)?;
@@ -322,19 +342,55 @@ impl<
         void: bool,
         list: &[Parameter],
     ) -> Result<Items<TypedParameter>, Fault>
-        requires nests { Nests self.now.depth (E.pre self.now.judge_expr)
+        requires nests { Nests (suc (parameters_height (added NoParameter
+            (map parameter_view list.now)))) (E.pre self.now.judge_expr)
             (E.post self.now.judge_expr) (S.pre self.now.judge_specifiers)
             (S.post self.now.judge_specifiers) (D.pre self.now.judge_form)
             (D.post self.now.judge_form) }
-        ensures { Answers (λ found. added no_typed_parameter (map typed_parameter_view found))
-            (walks.judge_parameters void (added NoParameter (map parameter_view list.now))
-            (known types.old scope.old)) result (known types.new scope.new) }
+        ensures answers { Answers (λ found. added no_typed_parameter
+            (map typed_parameter_view found)) (walks.judge_parameters void
+            (added NoParameter (map parameter_view list.now)) (known types.old scope.old)) result
+            (known types.new scope.new) }
+        ensures grows { GrowsAny (known types.old scope.old) (known types.new scope.new) }
     {
         let mut found = Items::new(scope.alloc());
         for one in list {
             found.push(self.parameter(scope, types, void, one)?)?;
         }
         Ok(found)
+    }
+
+    /// Parameters in the scope that is open for them; where they stop, it is left.
+    fn parameters_inside(
+        &self,
+        scope: &mut Scope,
+        types: &mut Types,
+        void: bool,
+        list: &[Parameter],
+    ) -> Result<Items<TypedParameter>, Fault>
+        requires nests { Nests (suc (parameters_height (added NoParameter
+            (map parameter_view list.now)))) (E.pre self.now.judge_expr)
+            (E.post self.now.judge_expr) (S.pre self.now.judge_specifiers)
+            (S.post self.now.judge_specifiers) (D.pre self.now.judge_form)
+            (D.post self.now.judge_form) }
+        ensures answers { Answers (λ found. added no_typed_parameter
+            (map typed_parameter_view found)) (declaring.stopping_outside
+            (walks.judge_parameters void (added NoParameter (map parameter_view list.now)))
+            (known types.old scope.old)) result (known types.new scope.new) }
+        ensures judged { IfOk result (λ found. walks.judge_parameters void
+            (added NoParameter (map parameter_view list.now)) (known types.old scope.old)
+            ≡ Gives (added no_typed_parameter (map typed_parameter_view found))
+            (known types.new scope.new)) }
+        ensures grows { GrowsOrLeaves result (known types.old scope.old)
+            (known types.new scope.new) }
+    {
+        match self.parameters(scope, types, void, list) {
+            Ok(found) => Ok(found),
+            Err(fault) => {
+                leave_innermost(scope);
+                Err(fault)
+            }
+        }
     }
 
     /// Parameters in a scope of their own, with that scope as they leave it.
@@ -346,7 +402,8 @@ impl<
         at: Place,
         list: &[Parameter],
     ) -> Result<(Items<TypedParameter>, Level), Fault>
-        requires nests { Nests self.now.depth (E.pre self.now.judge_expr)
+        requires nests { Nests (suc (parameters_height (added NoParameter
+            (map parameter_view list.now)))) (E.pre self.now.judge_expr)
             (E.post self.now.judge_expr) (S.pre self.now.judge_specifiers)
             (S.post self.now.judge_specifiers) (D.pre self.now.judge_form)
             (D.post self.now.judge_form) }
@@ -357,9 +414,11 @@ impl<
             (map typed_parameter_view made.0)) (walks.judge_prototype at
             (added NoParameter (map parameter_view list.now)) (known types.old scope.old)) result
             (known types.new scope.new) }
+        ensures grows { Grows (known types.old scope.old) (known types.new scope.new) }
     {
+        let _open = scope.depth();
         scope.enter()?;
-        let found = self.parameters(scope, types, is_void_alone(list), list)?;
+        let found = self.parameters_inside(scope, types, is_void_alone(list), list)?;
         if scope.depth() <= 1 {
             return Err(no_room(at));
         }

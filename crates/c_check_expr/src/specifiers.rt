@@ -1,11 +1,13 @@
 //! Lists of specifiers (C99 6.7.2).
 #![tactic(auto)]
 
-ghost use Rattle.std.specs.Prelude.{◌≡◌, IfOk, map, option_copied};
+ghost use Rattle.std.specs.Prelude.{◌≡◌, IfOk, map, option_copied, suc};
+ghost use Rattle.c_tree.specs.Depth.{enumerators_height, members_height, specifier_height, specifiers_height};
 ghost use Rattle.c_tree.specs.Tree as tree;
 ghost use Rattle.c_tree.specs.Views.{added, enumerator_view, members_view, specifier_view, specifiers_of, specifiers_view};
 ghost use Rattle.c_tree.specs.TypedViews.{typed_specifier_view, typed_specifiers_view};
 ghost use Rattle.c_typing.specs.Declarators.{counting, named_by_specifier};
+ghost use Rattle.c_typing.specs.Growing.{Grows};
 ghost use Rattle.c_typing.specs.Judging.{Answers, known};
 ghost use Rattle.c_check_expr.specs.Nests.{Nests};
 ghost use Rattle.c_check_expr.specs.NamedViews.{named_view};
@@ -68,9 +70,9 @@ pub(crate) fn listed_type(named: Named, words: &Words) -> TypeId
 }
 
 impl<
-    E: Fn(&mut Scope, &mut Types, u16, bool, &Expr) -> Result<Operand, Fault>,
-    S: Fn(&mut Scope, &mut Types, u16, &Specifiers) -> Result<TypedSpecifiers, Fault>,
-    D: Fn(&mut Scope, &mut Types, u16, Naming, Place, &Declarator) -> Result<TypedForm, Fault>,
+    E: Fn(&mut Scope, &mut Types, bool, &Expr) -> Result<Operand, Fault>,
+    S: Fn(&mut Scope, &mut Types, &Specifiers) -> Result<TypedSpecifiers, Fault>,
+    D: Fn(&mut Scope, &mut Types, Naming, Place, &Declarator) -> Result<TypedForm, Fault>,
 > Walker<E, S, D> {
     /// A struct or union with its members.
     #[tactic(auto, using(c_tree::proofs::TypedViewLaws::typed_views), unfolding(c_typing::specs::Walks::judge_specifier))]
@@ -85,15 +87,16 @@ impl<
         brace: Place,
         rows: &[Members],
     ) -> Result<(TypedSpecifier, Words), Fault>
-        requires nests { Nests self.now.depth (E.pre self.now.judge_expr)
-            (E.post self.now.judge_expr) (S.pre self.now.judge_specifiers)
-            (S.post self.now.judge_specifiers) (D.pre self.now.judge_form)
-            (D.post self.now.judge_form) }
+        requires nests { Nests (suc (members_height (added tree.NoMember
+            (map members_view rows.now)))) (E.pre self.now.judge_expr) (E.post self.now.judge_expr)
+            (S.pre self.now.judge_specifiers) (S.post self.now.judge_specifiers)
+            (D.pre self.now.judge_form) (D.post self.now.judge_form) }
         ensures answers { Answers (λ r. typed_specifier_view r.0)
             (walks.judge_specifier before.now (tree.Aggregate which at
             (option_copied name.entry) brace (added tree.NoMember (map members_view rows.now)))
             (known types.old scope.old)) result (known types.new scope.new) }
         ensures counts { IfOk result (λ r. r.1 ≡ counting (typed_specifier_view r.0) before.now) }
+        ensures grows { Grows (known types.old scope.old) (known types.new scope.new) }
     {
         let t = begun(scope, types, which, at, name)?;
         let mut names = MemberNames::new(scope.alloc());
@@ -119,7 +122,8 @@ impl<
         list: &[Enumerator],
         comma: bool,
     ) -> Result<(TypedSpecifier, Words), Fault>
-        requires nests { Nests self.now.depth (E.pre self.now.judge_expr)
+        requires nests { Nests (suc (enumerators_height (added tree.NoEnumerator
+            (map enumerator_view list.now)))) (E.pre self.now.judge_expr)
             (E.post self.now.judge_expr) (S.pre self.now.judge_specifiers)
             (S.post self.now.judge_specifiers) (D.pre self.now.judge_form)
             (D.post self.now.judge_form) }
@@ -128,6 +132,7 @@ impl<
             (added tree.NoEnumerator (map enumerator_view list.now)) comma)
             (known types.old scope.old)) result (known types.new scope.new) }
         ensures counts { IfOk result (λ r. r.1 ≡ counting (typed_specifier_view r.0) before.now) }
+        ensures grows { Grows (known types.old scope.old) (known types.new scope.new) }
     {
         enumeration_begun(scope, name)?;
         let list = self.enumerators(scope, types, list)?;
@@ -154,14 +159,15 @@ impl<
         before: &Words,
         one: &Specifier,
     ) -> Result<(TypedSpecifier, Words), Fault>
-        requires nests { Nests self.now.depth (E.pre self.now.judge_expr)
-            (E.post self.now.judge_expr) (S.pre self.now.judge_specifiers)
-            (S.post self.now.judge_specifiers) (D.pre self.now.judge_form)
-            (D.post self.now.judge_form) }
+        requires nests { Nests (suc (specifier_height (specifier_view one.now)))
+            (E.pre self.now.judge_expr) (E.post self.now.judge_expr)
+            (S.pre self.now.judge_specifiers) (S.post self.now.judge_specifiers)
+            (D.pre self.now.judge_form) (D.post self.now.judge_form) }
         ensures answers { Answers (λ r. typed_specifier_view r.0)
             (walks.judge_specifier before.now (specifier_view one.now) (known types.old scope.old))
             result (known types.new scope.new) }
         ensures counts { IfOk result (λ r. r.1 ≡ counting (typed_specifier_view r.0) before.now) }
+        ensures grows { Grows (known types.old scope.old) (known types.new scope.new) }
     {
         match one {
             Specifier::Keyword(w) => word(before, *w),
@@ -199,13 +205,15 @@ impl<
         types: &mut Types,
         specifiers: &[Specifier],
     ) -> Result<TypedSpecifiers, Fault>
-        requires nests { Nests self.now.depth (E.pre self.now.judge_expr)
+        requires nests { Nests (suc (specifiers_height (specifiers_of
+            (map specifier_view specifiers.now)))) (E.pre self.now.judge_expr)
             (E.post self.now.judge_expr) (S.pre self.now.judge_specifiers)
             (S.post self.now.judge_specifiers) (D.pre self.now.judge_form)
             (D.post self.now.judge_form) }
-        ensures { Answers typed_specifiers_view (walks.judge_specifiers
+        ensures answers { Answers typed_specifiers_view (walks.judge_specifiers
             (specifiers_of (map specifier_view specifiers.now)) (known types.old scope.old)) result
             (known types.new scope.new) }
+        ensures grows { Grows (known types.old scope.old) (known types.new scope.new) }
     {
         let mut list = Items::new(scope.alloc());
         let mut words = Words::none();
@@ -228,13 +236,14 @@ impl<
         types: &mut Types,
         specifiers: &Specifiers,
     ) -> Result<TypedSpecifiers, Fault>
-        requires nests { Nests self.now.depth (E.pre self.now.judge_expr)
-            (E.post self.now.judge_expr) (S.pre self.now.judge_specifiers)
-            (S.post self.now.judge_specifiers) (D.pre self.now.judge_form)
-            (D.post self.now.judge_form) }
-        ensures { Answers typed_specifiers_view (walks.judge_specifiers
+        requires nests { Nests (suc (specifiers_height (specifiers_view specifiers.now)))
+            (E.pre self.now.judge_expr) (E.post self.now.judge_expr)
+            (S.pre self.now.judge_specifiers) (S.post self.now.judge_specifiers)
+            (D.pre self.now.judge_form) (D.post self.now.judge_form) }
+        ensures answers { Answers typed_specifiers_view (walks.judge_specifiers
             (specifiers_view specifiers.now) (known types.old scope.old)) result
             (known types.new scope.new) }
+        ensures grows { Grows (known types.old scope.old) (known types.new scope.new) }
     {
         self.listed(scope, types, specifiers.list.as_slice())
     }

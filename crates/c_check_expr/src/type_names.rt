@@ -1,9 +1,11 @@
 //! Type names (C99 6.7.6).
 #![tactic(auto)]
 
-ghost use Rattle.std.specs.Prelude.{option_map};
+ghost use Rattle.std.specs.Prelude.{option_map, suc};
+ghost use Rattle.c_tree.specs.Depth.{declared_height, type_name_height};
 ghost use Rattle.c_tree.specs.Views.{type_name_view, declarator_view, declared_of};
 ghost use Rattle.c_tree.specs.TypedViews.{typed_type_name_view, typed_form_view, typed_declared_of};
+ghost use Rattle.c_typing.specs.Growing.{Grows};
 ghost use Rattle.c_typing.specs.Judging.{Answers, known};
 ghost use Rattle.c_check_expr.specs.Nests.{Nests};
 ghost use Rattle.c_typing.specs.Walks as walks;
@@ -21,9 +23,9 @@ use c_typing::scope::Scope;
 use cc_base::{Fault, Place};
 
 impl<
-    E: Fn(&mut Scope, &mut Types, u16, bool, &Expr) -> Result<Operand, Fault>,
-    S: Fn(&mut Scope, &mut Types, u16, &Specifiers) -> Result<TypedSpecifiers, Fault>,
-    D: Fn(&mut Scope, &mut Types, u16, Naming, Place, &Declarator) -> Result<TypedForm, Fault>,
+    E: Fn(&mut Scope, &mut Types, bool, &Expr) -> Result<Operand, Fault>,
+    S: Fn(&mut Scope, &mut Types, &Specifiers) -> Result<TypedSpecifiers, Fault>,
+    D: Fn(&mut Scope, &mut Types, Naming, Place, &Declarator) -> Result<TypedForm, Fault>,
 > Walker<E, S, D> {
     /// A declarator that may be left out.
     #[tactic(auto, unfolding(c_typing::specs::Walks::judge_declared))]
@@ -35,13 +37,15 @@ impl<
         at: Place,
         d: &Option<Declarator>,
     ) -> Result<Option<TypedForm>, Fault>
-        requires nests { Nests self.now.depth (E.pre self.now.judge_expr)
+        requires nests { Nests (suc (declared_height (declared_of
+            (option_map declarator_view d.now)))) (E.pre self.now.judge_expr)
             (E.post self.now.judge_expr) (S.pre self.now.judge_specifiers)
             (S.post self.now.judge_specifiers) (D.pre self.now.judge_form)
             (D.post self.now.judge_form) }
-        ensures { Answers (λ form. typed_declared_of (option_map typed_form_view form))
+        ensures answers { Answers (λ form. typed_declared_of (option_map typed_form_view form))
             (walks.judge_declared which at (declared_of (option_map declarator_view d.now))
             (known types.old scope.old)) result (known types.new scope.new) }
+        ensures grows { Grows (known types.old scope.old) (known types.new scope.new) }
     {
         match d {
             Some(d) => Ok(Some(self.form(scope, types, which, at, d)?)),
@@ -49,19 +53,21 @@ impl<
         }
     }
 
-    #[tactic(auto, using(c_tree::proofs::ViewLaws::expr_views, c_tree::proofs::TypedViewLaws::typed_views), unfolding(c_typing::specs::Walks::judge_type_name))]
+    #[tactic(auto, using(crate::proofs::NestLaws::nests, c_tree::proofs::ViewLaws::expr_views, c_tree::proofs::TypedViewLaws::typed_views), unfolding(c_typing::specs::Walks::judge_type_name))]
     pub(crate) fn type_name(
         &self,
         scope: &mut Scope,
         types: &mut Types,
         name: &TypeName,
     ) -> Result<Boxed<TypedTypeName>, Fault>
-        requires nests { Nests self.now.depth (E.pre self.now.judge_expr)
-            (E.post self.now.judge_expr) (S.pre self.now.judge_specifiers)
-            (S.post self.now.judge_specifiers) (D.pre self.now.judge_form)
-            (D.post self.now.judge_form) }
-        ensures { Answers typed_type_name_view (walks.judge_type_name (type_name_view name.now)
-            (known types.old scope.old)) result (known types.new scope.new) }
+        requires nests { Nests (suc (type_name_height (type_name_view name.now)))
+            (E.pre self.now.judge_expr) (E.post self.now.judge_expr)
+            (S.pre self.now.judge_specifiers) (S.post self.now.judge_specifiers)
+            (D.pre self.now.judge_form) (D.post self.now.judge_form) }
+        ensures answers { Answers typed_type_name_view (walks.judge_type_name
+            (type_name_view name.now) (known types.old scope.old)) result
+            (known types.new scope.new) }
+        ensures grows { Grows (known types.old scope.old) (known types.new scope.new) }
     {
         let at = declared_place(&name.specifiers, &name.declarator);
         let specifiers = self.specifiers(scope, types, &name.specifiers)?;

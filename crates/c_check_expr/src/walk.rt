@@ -3,6 +3,7 @@
 
 ghost use Rattle.c_tree.specs.Views.{expr_view, specifiers_view, declarator_view};
 ghost use Rattle.c_tree.specs.TypedViews.{typed_specifiers_view, typed_form_view};
+ghost use Rattle.c_typing.specs.Growing.{Grows};
 ghost use Rattle.c_typing.specs.Judging.{Answers, known};
 ghost use Rattle.c_typing.specs.OperandViews.{operand_view};
 ghost use Rattle.c_typing.specs.Walks as walks;
@@ -15,23 +16,19 @@ use c_typing::operand::Operand;
 use c_typing::scope::Scope;
 use cc_base::{Fault, Place};
 
-/// An expression. `depth` is how many levels may be on a path; the parser gives no more than 256 nodes on one.
+/// An expression.
 #[cycle(walk)]
 pub(crate) fn judge_expr(
     scope: &mut Scope,
     types: &mut Types,
-    depth: u16,
     called: bool,
     e: &Expr,
 ) -> Result<Operand, Fault>
-    ensures { Answers operand_view (walks.judge called (expr_view e.now)
+    ensures answers { Answers operand_view (walks.judge called (expr_view e.now)
         (known types.old scope.old)) result (known types.new scope.new) }
+    ensures grows { Grows (known types.old scope.old) (known types.new scope.new) }
 {
-    if depth == 0 {
-        return Err(Fault::NoMemory);
-    }
     let walker = Walker {
-        depth: depth - 1,
         judge_expr,
         judge_specifiers,
         judge_form,
@@ -44,17 +41,14 @@ pub(crate) fn judge_expr(
 pub(crate) fn judge_specifiers(
     scope: &mut Scope,
     types: &mut Types,
-    depth: u16,
     specifiers: &Specifiers,
 ) -> Result<TypedSpecifiers, Fault>
-    ensures { Answers typed_specifiers_view (walks.judge_specifiers (specifiers_view specifiers.now)
-        (known types.old scope.old)) result (known types.new scope.new) }
+    ensures answers { Answers typed_specifiers_view (walks.judge_specifiers
+        (specifiers_view specifiers.now) (known types.old scope.old)) result
+        (known types.new scope.new) }
+    ensures grows { Grows (known types.old scope.old) (known types.new scope.new) }
 {
-    if depth == 0 {
-        return Err(Fault::NoMemory);
-    }
     let walker = Walker {
-        depth: depth - 1,
         judge_expr,
         judge_specifiers,
         judge_form,
@@ -67,19 +61,15 @@ pub(crate) fn judge_specifiers(
 pub(crate) fn judge_form(
     scope: &mut Scope,
     types: &mut Types,
-    depth: u16,
     which: Naming,
     at: Place,
     d: &Declarator,
 ) -> Result<TypedForm, Fault>
-    ensures { Answers typed_form_view (walks.judge_form which at (declarator_view d.now)
+    ensures answers { Answers typed_form_view (walks.judge_form which at (declarator_view d.now)
         (known types.old scope.old)) result (known types.new scope.new) }
+    ensures grows { Grows (known types.old scope.old) (known types.new scope.new) }
 {
-    if depth == 0 {
-        return Err(Fault::NoMemory);
-    }
     let walker = Walker {
-        depth: depth - 1,
         judge_expr,
         judge_specifiers,
         judge_form,

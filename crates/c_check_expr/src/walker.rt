@@ -1,8 +1,11 @@
 //! The rules of a part take those for the parts inside as parameters, so that each is proved by itself.
 #![tactic(auto)]
 
+ghost use Rattle.std.specs.Prelude.{suc};
+ghost use Rattle.c_tree.specs.Depth.{expr_height, specifier_list_height, declarator_height};
 ghost use Rattle.c_tree.specs.Views.{expr_view, specifiers_view, declarator_view};
 ghost use Rattle.c_tree.specs.TypedViews.{typed_specifiers_view, typed_form_view};
+ghost use Rattle.c_typing.specs.Growing.{Grows};
 ghost use Rattle.c_typing.specs.Judging.{Answers, known};
 ghost use Rattle.c_check_expr.specs.Listed.{IsListed};
 ghost use Rattle.c_check_expr.specs.Nests.{Nests};
@@ -20,8 +23,6 @@ use cc_base::{Fault, Place};
 /// What the rules of a part stand on.
 #[derive(Clone, Copy)]
 pub(crate) struct Walker<E, S, D> {
-    /// How many levels of expressions, specifiers and declarators may lie below the part.
-    pub(crate) depth: u16,
     /// Judges an expression; the flag says that it is what a call calls.
     pub(crate) judge_expr: E,
     /// Judges a list of specifiers.
@@ -31,9 +32,9 @@ pub(crate) struct Walker<E, S, D> {
 }
 
 impl<
-    E: Fn(&mut Scope, &mut Types, u16, bool, &Expr) -> Result<Operand, Fault>,
-    S: Fn(&mut Scope, &mut Types, u16, &Specifiers) -> Result<TypedSpecifiers, Fault>,
-    D: Fn(&mut Scope, &mut Types, u16, Naming, Place, &Declarator) -> Result<TypedForm, Fault>,
+    E: Fn(&mut Scope, &mut Types, bool, &Expr) -> Result<Operand, Fault>,
+    S: Fn(&mut Scope, &mut Types, &Specifiers) -> Result<TypedSpecifiers, Fault>,
+    D: Fn(&mut Scope, &mut Types, Naming, Place, &Declarator) -> Result<TypedForm, Fault>,
 > Walker<E, S, D> {
     pub(crate) fn expr(
         &self,
@@ -42,14 +43,15 @@ impl<
         called: bool,
         e: &Expr,
     ) -> Result<Operand, Fault>
-        requires nests { Nests self.now.depth (E.pre self.now.judge_expr)
+        requires nests { Nests (suc (expr_height (expr_view e.now))) (E.pre self.now.judge_expr)
             (E.post self.now.judge_expr) (S.pre self.now.judge_specifiers)
             (S.post self.now.judge_specifiers) (D.pre self.now.judge_form)
             (D.post self.now.judge_form) }
-        ensures { Answers operand_view (walks.judge called (expr_view e.now)
+        ensures answers { Answers operand_view (walks.judge called (expr_view e.now)
             (known types.old scope.old)) result (known types.new scope.new) }
+        ensures grows { Grows (known types.old scope.old) (known types.new scope.new) }
     {
-        (self.judge_expr)(scope, types, self.depth, called, e)
+        (self.judge_expr)(scope, types, called, e)
     }
 
     /// An expression whose value is taken.
@@ -60,12 +62,13 @@ impl<
         types: &mut Types,
         e: &Expr,
     ) -> Result<Value, Fault>
-        requires nests { Nests self.now.depth (E.pre self.now.judge_expr)
+        requires nests { Nests (suc (expr_height (expr_view e.now))) (E.pre self.now.judge_expr)
             (E.post self.now.judge_expr) (S.pre self.now.judge_specifiers)
             (S.post self.now.judge_specifiers) (D.pre self.now.judge_form)
             (D.post self.now.judge_form) }
-        ensures { Answers value_view (walks.judge_value (expr_view e.now)
+        ensures answers { Answers value_view (walks.judge_value (expr_view e.now)
             (known types.old scope.old)) result (known types.new scope.new) }
+        ensures grows { Grows (known types.old scope.old) (known types.new scope.new) }
     {
         let x = self.expr(scope, types, false, e)?;
         value(scope, types, x)
@@ -77,17 +80,18 @@ impl<
         types: &mut Types,
         specifiers: &Specifiers,
     ) -> Result<TypedSpecifiers, Fault>
-        requires nests { Nests self.now.depth (E.pre self.now.judge_expr)
-            (E.post self.now.judge_expr) (S.pre self.now.judge_specifiers)
-            (S.post self.now.judge_specifiers) (D.pre self.now.judge_form)
-            (D.post self.now.judge_form) }
+        requires nests { Nests (suc (specifier_list_height (specifiers_view specifiers.now)))
+            (E.pre self.now.judge_expr) (E.post self.now.judge_expr)
+            (S.pre self.now.judge_specifiers) (S.post self.now.judge_specifiers)
+            (D.pre self.now.judge_form) (D.post self.now.judge_form) }
         ensures answers { Answers typed_specifiers_view (walks.judge_specifiers
             (specifiers_view specifiers.now) (known types.old scope.old)) result
             (known types.new scope.new) }
         ensures listed { IsListed (walks.judge_list (specifiers_view specifiers.now)
             (known types.old scope.old)) result (known types.new scope.new) }
+        ensures grows { Grows (known types.old scope.old) (known types.new scope.new) }
     {
-        (self.judge_specifiers)(scope, types, self.depth, specifiers)
+        (self.judge_specifiers)(scope, types, specifiers)
     }
 
     pub(crate) fn form(
@@ -98,13 +102,14 @@ impl<
         at: Place,
         d: &Declarator,
     ) -> Result<TypedForm, Fault>
-        requires nests { Nests self.now.depth (E.pre self.now.judge_expr)
-            (E.post self.now.judge_expr) (S.pre self.now.judge_specifiers)
-            (S.post self.now.judge_specifiers) (D.pre self.now.judge_form)
-            (D.post self.now.judge_form) }
-        ensures { Answers typed_form_view (walks.judge_form which at (declarator_view d.now)
+        requires nests { Nests (suc (declarator_height (declarator_view d.now)))
+            (E.pre self.now.judge_expr) (E.post self.now.judge_expr)
+            (S.pre self.now.judge_specifiers) (S.post self.now.judge_specifiers)
+            (D.pre self.now.judge_form) (D.post self.now.judge_form) }
+        ensures answers { Answers typed_form_view (walks.judge_form which at (declarator_view d.now)
             (known types.old scope.old)) result (known types.new scope.new) }
+        ensures grows { Grows (known types.old scope.old) (known types.new scope.new) }
     {
-        (self.judge_form)(scope, types, self.depth, which, at, d)
+        (self.judge_form)(scope, types, which, at, d)
     }
 }

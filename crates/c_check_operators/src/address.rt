@@ -6,6 +6,7 @@ ghost use Rattle.c_types.specs.Layouts.{size_of};
 ghost use Rattle.c_tree.specs.TypedParts.{type_of};
 ghost use Rattle.c_tree.specs.TypedTree as typed;
 ghost use Rattle.c_tree.specs.TypedViews.{typed_expr_view, typed_place_view};
+ghost use Rattle.c_typing.specs.Growing.{Grows};
 ghost use Rattle.c_typing.specs.Judging.{Answers, known};
 ghost use Rattle.c_typing.specs.Operations as operations;
 ghost use Rattle.c_typing.specs.OperandViews.{part_view, operand_view};
@@ -109,9 +110,10 @@ fn address_of_place(
     at: Place,
     p: Boxed<TypedPlace>,
 ) -> Result<Boxed<TypedExpr>, Fault>
-    ensures { Answers (λ e. tests.AsValue (typed_expr_view e))
+    ensures answers { Answers (λ e. tests.AsValue (typed_expr_view e))
         (operations.address_of_part at (AsPlace (typed_place_view p)) (known types.old scope.old))
         result (known types.new scope.new) }
+    ensures grows { Grows (known types.old scope.old) (known types.new scope.new) }
 {
     match type_behind(p.get()) {
         Some(t) => Ok(Boxed::new(scope.alloc(), TypedExpr::AddressOfElement(at, p, t))?),
@@ -127,8 +129,9 @@ fn address_of_place(
 
 #[tactic(auto, using(c_tree::proofs::TypedViewLaws::typed_views), unfolding(c_typing::specs::Operations::address_of_part))]
 fn address_of_part(scope: &mut Scope, types: &mut Types, at: Place, x: Part) -> Result<Part, Fault>
-    ensures { Answers part_view (operations.address_of_part at (part_view x)
+    ensures answers { Answers part_view (operations.address_of_part at (part_view x)
         (known types.old scope.old)) result (known types.new scope.new) }
+    ensures grows { Grows (known types.old scope.old) (known types.new scope.new) }
 {
     match x {
         Part::Place(p) => Ok(Part::Value(address_of_place(scope, types, at, p)?)),
@@ -147,8 +150,9 @@ pub(crate) fn address(
     at: Place,
     x: Operand,
 ) -> Result<Operand, Fault>
-    ensures { Answers operand_view (operations.address at (operand_view x)
+    ensures answers { Answers operand_view (operations.address at (operand_view x)
         (known types.old scope.old)) result (known types.new scope.new) }
+    ensures grows { Grows (known types.old scope.old) (known types.new scope.new) }
 {
     let fault = address_fault(at, &x.part);
     let allowed = allowed(fault, at, x)?;
@@ -207,9 +211,10 @@ fn size_of_part(
     begin: Place,
     x: Part,
 ) -> Result<Boxed<TypedExpr>, Fault>
-    ensures { Answers (λ e. tests.AsValue (typed_expr_view e))
+    ensures answers { Answers (λ e. tests.AsValue (typed_expr_view e))
         (operations.size_of_part at begin (part_view x) (known types.old scope.old)) result
         (known types.new scope.new) }
+    ensures grows { Grows (known types.old scope.old) (known types.new scope.new) }
 {
     match x {
         Part::Place(p) => {
@@ -232,8 +237,9 @@ pub(crate) fn size(
     at: Place,
     x: Operand,
 ) -> Result<Operand, Fault>
-    ensures { Answers operand_view (operations.size at (operand_view x) (known types.old scope.old))
-        result (known types.new scope.new) }
+    ensures answers { Answers operand_view (operations.size at (operand_view x)
+        (known types.old scope.old)) result (known types.new scope.new) }
+    ensures grows { Grows (known types.old scope.old) (known types.new scope.new) }
 {
     let begin = x.place;
     let fault = size_fault(scope, types, at, &x.part);

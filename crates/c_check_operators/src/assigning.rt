@@ -7,6 +7,7 @@ ghost use Rattle.c_tree.specs.TypedParts.{type_of, place_type};
 ghost use Rattle.c_tree.specs.TypedTree as typed;
 ghost use Rattle.c_tree.specs.TypedViews.{typed_expr_view, typed_place_view};
 ghost use Rattle.c_typing.specs.Assignments as assignments;
+ghost use Rattle.c_typing.specs.Growing.{Grows};
 ghost use Rattle.c_typing.specs.Judging.{Answers, known, next, pure};
 ghost use Rattle.c_typing.specs.KindViews.{kind_view};
 ghost use Rattle.c_typing.specs.OperandViews.{part_view, operand_view, value_view, part_ref_view};
@@ -204,8 +205,9 @@ fn count_moved(
     t: TypeId,
     y: &Part,
 ) -> Result<TypeId, Fault>
-    ensures { Answers (λ t. t) (assignments.moved at t (part_view y.now)
+    ensures answers { Answers (λ t. t) (assignments.moved at t (part_view y.now)
         (known types.now scope.old)) result (known types.now scope.new) }
+    ensures grows { Grows (known types.now scope.old) (known types.now scope.new) }
 {
     match y {
         Part::Place(_) => count_cells(scope, types, at, t),
@@ -222,8 +224,9 @@ fn assign_place(
     p: Boxed<TypedPlace>,
     y: Part,
 ) -> Result<Part, Fault>
-    ensures { Answers part_view (assignments.assign_part at (AsPlace (typed_place_view p))
+    ensures answers { Answers part_view (assignments.assign_part at (AsPlace (typed_place_view p))
         (part_view y) (known types.now scope.old)) result (known types.now scope.new) }
+    ensures grows { Grows (known types.now scope.old) (known types.now scope.new) }
 {
     count_moved(scope, types, at, p.get().ty(), &y)?;
     Ok(assigned(scope, types, at, p, y)?)
@@ -231,8 +234,9 @@ fn assign_place(
 
 #[tactic(auto, unfolding(c_typing::specs::Assignments::assign_part))]
 fn assign_part(scope: &mut Scope, types: &Types, at: Place, x: Part, y: Part) -> Result<Part, Fault>
-    ensures { Answers part_view (assignments.assign_part at (part_view x) (part_view y)
+    ensures answers { Answers part_view (assignments.assign_part at (part_view x) (part_view y)
         (known types.now scope.old)) result (known types.now scope.new) }
+    ensures grows { Grows (known types.now scope.old) (known types.now scope.new) }
 {
     match x {
         Part::Place(p) => assign_place(scope, types, at, p, y),
@@ -249,10 +253,11 @@ fn allowed_assign(
     y: Operand,
     held: u32,
 ) -> Result<Operand, Fault>
-    ensures { Answers operand_view (next (assignments.assign_part at (part_view x.part)
+    ensures answers { Answers operand_view (next (assignments.assign_part at (part_view x.part)
         (part_view y.part) (known types.old scope.old))
         (λ made. pure (record { part = made; place = x.place; held = held }))) result
         (known types.new scope.new) }
+    ensures grows { Grows (known types.old scope.old) (known types.new scope.new) }
 {
     let place = x.place;
     let part = assign_part(scope, types, at, x.part, y.part)?;
@@ -268,8 +273,9 @@ fn assign_given(
     at: Place,
     y: Operand,
 ) -> Result<Operand, Fault>
-    ensures { Answers operand_view (assignments.assign_given (operand_view x) at (operand_view y)
-        (known types.old scope.old)) result (known types.new scope.new) }
+    ensures answers { Answers operand_view (assignments.assign_given (operand_view x) at
+        (operand_view y) (known types.old scope.old)) result (known types.new scope.new) }
+    ensures grows { Grows (known types.old scope.old) (known types.new scope.new) }
 {
     let held = held_with_two(x.held, y.held);
     let fault = assign_fault(scope, types, at, &x.part, &y.part);
@@ -288,8 +294,9 @@ pub fn assign(
     at: Place,
     y: Operand,
 ) -> Result<Operand, Fault>
-    ensures { Answers operand_view (assignments.assign (operand_view x) at (operand_view y)
+    ensures answers { Answers operand_view (assignments.assign (operand_view x) at (operand_view y)
         (known types.old scope.old)) result (known types.new scope.new) }
+    ensures grows { Grows (known types.old scope.old) (known types.new scope.new) }
 {
     let Operand { part, place, held } = y;
     let part = given(scope, types, part_type(&x.part), place, part)?;
@@ -383,8 +390,9 @@ pub fn update_by(
     v: Value,
 ) -> Result<Operand, Fault>
     requires { rules.is_compound operator ≡ true }
-    ensures { Answers operand_view (assignments.update_by operator (operand_view x) at
+    ensures answers { Answers operand_view (assignments.update_by operator (operand_view x) at
         (value_view v) (known types.old scope.old)) result (known types.new scope.new) }
+    ensures grows { Grows (known types.old scope.old) (known types.new scope.new) }
 {
     let Operand { part, place, held } = x;
     let Value {

@@ -6,6 +6,7 @@ ghost use Rattle.c_tree.specs.TypedParts.{type_of};
 ghost use Rattle.c_types.specs.Table.{shape_at};
 ghost use Rattle.c_tree.specs.TypedTree as typed;
 ghost use Rattle.c_tree.specs.TypedViews.{typed_expr_view};
+ghost use Rattle.c_typing.specs.Growing.{Grows};
 ghost use Rattle.c_typing.specs.Judging.{Answers, known};
 ghost use Rattle.c_typing.specs.KindViews.{kind_view};
 ghost use Rattle.c_typing.specs.Operations as operations;
@@ -104,8 +105,9 @@ pub fn index(
     at: Place,
     b: Value,
 ) -> Result<Operand, Fault>
-    ensures { Answers operand_view (operations.index (value_view a) at (value_view b)
+    ensures answers { Answers operand_view (operations.index (value_view a) at (value_view b)
         (known types.old scope.old)) result (known types.new scope.new) }
+    ensures grows { Grows (known types.old scope.old) (known types.new scope.new) }
 {
     let Value {
         expr: left,
@@ -373,8 +375,9 @@ pub fn infix_of(
     at: Place,
     b: Value,
 ) -> Result<Operand, Fault>
-    ensures { Answers operand_view (operations.infix_of operator (value_view a) at (value_view b)
-        (known types.old scope.old)) result (known types.new scope.new) }
+    ensures answers { Answers operand_view (operations.infix_of operator (value_view a) at
+        (value_view b) (known types.old scope.old)) result (known types.new scope.new) }
+    ensures grows { Grows (known types.old scope.old) (known types.new scope.new) }
 {
     let Value {
         expr: left,

@@ -8,6 +8,7 @@ ghost use Rattle.c_tree.specs.TypedTree as typed;
 ghost use Rattle.c_tree.specs.TypedParts.{named_type};
 ghost use Rattle.c_tree.specs.TypedViews.{typed_expr_view, typed_type_name_view};
 ghost use Rattle.c_typing.specs.Assignments as assignments;
+ghost use Rattle.c_typing.specs.Growing.{Grows};
 ghost use Rattle.c_typing.specs.Judging.{Answers, known};
 ghost use Rattle.c_typing.specs.Operations as operations;
 ghost use Rattle.c_typing.specs.OperandViews.{part_view, operand_view, part_ref_view};
@@ -144,8 +145,9 @@ pub fn cast(
     to: Boxed<TypedTypeName>,
     x: Operand,
 ) -> Result<Operand, Fault>
-    ensures { Answers operand_view (assignments.cast at (typed_type_name_view to) (operand_view x)
-        (known types.old scope.old)) result (known types.new scope.new) }
+    ensures answers { Answers operand_view (assignments.cast at (typed_type_name_view to)
+        (operand_view x) (known types.old scope.old)) result (known types.new scope.new) }
+    ensures grows { Grows (known types.old scope.old) (known types.new scope.new) }
 {
     let Operand { part, place, held } = x;
     let part = given(scope, types, type_named(to.get()), place, part)?;

@@ -4,6 +4,7 @@
 ghost use Rattle.std.specs.Prelude.{◌≡◌};
 ghost use Rattle.c_types.specs.PointerCounts.{pointers_in};
 ghost use Rattle.c_typing.specs.Cells.{count_cells};
+ghost use Rattle.c_typing.specs.Growing.{Grows};
 ghost use Rattle.c_typing.specs.Judging.{Answers, known};
 
 use c_types::Types;
@@ -23,10 +24,11 @@ fn pointers_in(types: &Types, t: TypeId) -> u64
 }
 
 /// The pointers that one assignment of a type moves are counted; the limit is named at the place.
-#[tactic(auto, unfolding(c_typing::specs::Cells::count_cells))]
+#[tactic(auto, using(c_typing::proofs::GrowingLaws::grown), unfolding(c_typing::specs::Cells::count_cells))]
 pub fn count_cells(scope: &mut Scope, types: &Types, at: Place, t: TypeId) -> Result<TypeId, Fault>
-    ensures { Answers (λ t. t) (count_cells at t (known types.now scope.old)) result
+    ensures answers { Answers (λ t. t) (count_cells at t (known types.now scope.old)) result
         (known types.now scope.new) }
+    ensures grows { Grows (known types.now scope.old) (known types.now scope.new) }
 {
     if !scope.add_cells(pointers_in(types, t)) {
         return Err(Fault::TooLarge {

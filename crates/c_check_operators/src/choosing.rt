@@ -8,6 +8,7 @@ ghost use Rattle.c_tree.specs.TypedTree as typed;
 ghost use Rattle.c_tree.specs.TypedViews.{typed_expr_view, typed_place_view};
 ghost use Rattle.c_typing.specs.Assignments as assignments;
 ghost use Rattle.c_typing.specs.Conversions.{to_integer};
+ghost use Rattle.c_typing.specs.Growing.{Grows};
 ghost use Rattle.c_typing.specs.Integers.{common};
 ghost use Rattle.c_typing.specs.Judging.{Answers, integer_type, known, next, pure, void_type};
 ghost use Rattle.c_typing.specs.KindViews.{kind_view};
@@ -161,9 +162,11 @@ fn choice_to(
     x: Chosen,
     to: TypeId,
 ) -> Result<Boxed<TypedExpr>, Fault>
-    ensures { Answers (λ e. AsValue (typed_expr_view e)) (assignments.pointer_choice
-        (typed_expr_view x.condition) x.begin x.at (typed_expr_view x.a) (typed_expr_view x.b)
-        (Some to) (known types.old scope.old)) result (known types.new scope.new) }
+    ensures answers { Answers (λ e. AsValue (typed_expr_view e))
+        (assignments.pointer_choice (typed_expr_view x.condition) x.begin x.at (typed_expr_view x.a)
+        (typed_expr_view x.b) (Some to) (known types.old scope.old)) result
+        (known types.new scope.new) }
+    ensures grows { Grows (known types.old scope.old) (known types.new scope.new) }
 {
     let made = new_pointer(scope, types, x.begin, to)?;
     Ok(chosen_pointer(scope, types, x, made)?)
@@ -177,9 +180,10 @@ fn pointer_choice(
     x: Chosen,
     to: Option<TypeId>,
 ) -> Result<Boxed<TypedExpr>, Fault>
-    ensures { Answers (λ e. AsValue (typed_expr_view e)) (assignments.pointer_choice
-        (typed_expr_view x.condition) x.begin x.at (typed_expr_view x.a) (typed_expr_view x.b) to
-        (known types.old scope.old)) result (known types.new scope.new) }
+    ensures answers { Answers (λ e. AsValue (typed_expr_view e))
+        (assignments.pointer_choice (typed_expr_view x.condition) x.begin x.at (typed_expr_view x.a)
+        (typed_expr_view x.b) to (known types.old scope.old)) result (known types.new scope.new) }
+    ensures grows { Grows (known types.old scope.old) (known types.new scope.new) }
 {
     match to {
         Some(to) => choice_to(scope, types, x, to),
@@ -228,11 +232,13 @@ fn choice_of_pointers(
     types: &mut Types,
     x: Chosen,
 ) -> Result<Boxed<TypedExpr>, Fault>
-    ensures { Answers (λ e. AsValue (typed_expr_view e)) (assignments.choice_of_pointers
-        (typed_expr_view x.condition) x.begin x.at (typed_expr_view x.a) (typed_expr_view x.b)
-        (is_void_shape (shape_at types.old (type_of (typed_expr_view x.a))) && is_void_shape
+    ensures answers { Answers (λ e. AsValue (typed_expr_view e))
+        (assignments.choice_of_pointers (typed_expr_view x.condition) x.begin x.at
+        (typed_expr_view x.a) (typed_expr_view x.b) (is_void_shape
+        (shape_at types.old (type_of (typed_expr_view x.a))) && is_void_shape
         (shape_at types.old (type_of (typed_expr_view x.b)))) (known types.old scope.old)) result
         (known types.new scope.new) }
+    ensures grows { Grows (known types.old scope.old) (known types.new scope.new) }
 {
     if is_void(shape_at(types, x.a.get().ty())) && is_void(shape_at(types, x.b.get().ty())) {
         return Ok(void_choice(scope, x)?);
@@ -282,11 +288,12 @@ fn choice_of_values(
     types: &mut Types,
     x: Chosen,
 ) -> Result<Boxed<TypedExpr>, Fault>
-    ensures { Answers (λ e. AsValue (typed_expr_view e)) (assignments.choice_of_values
-        (typed_expr_view x.condition) x.begin x.at (typed_expr_view x.a) (typed_expr_view x.b)
-        (integer_at types.old (type_of (typed_expr_view x.a)))
-        (integer_at types.old (type_of (typed_expr_view x.b))) (known types.old scope.old)) result
-        (known types.new scope.new) }
+    ensures answers { Answers (λ e. AsValue (typed_expr_view e))
+        (assignments.choice_of_values (typed_expr_view x.condition) x.begin x.at
+        (typed_expr_view x.a) (typed_expr_view x.b) (integer_at types.old
+        (type_of (typed_expr_view x.a))) (integer_at types.old (type_of (typed_expr_view x.b)))
+        (known types.old scope.old)) result (known types.new scope.new) }
+    ensures grows { Grows (known types.old scope.old) (known types.new scope.new) }
 {
     match (
         integer_at(types, x.a.get().ty()),
@@ -367,10 +374,11 @@ fn choice_of_structs(
 /// `?:` of two values, as a part.
 #[tactic(auto, unfolding(c_typing::specs::Assignments::choice_of_parts))]
 fn value_choice(scope: &mut Scope, types: &mut Types, x: Chosen) -> Result<Part, Fault>
-    ensures { Answers part_view (assignments.choice_of_parts
+    ensures answers { Answers part_view (assignments.choice_of_parts
         (typed_expr_view x.condition) x.begin x.at (AsValue (typed_expr_view x.a))
         (AsValue (typed_expr_view x.b)) (known types.old scope.old)) result
         (known types.new scope.new) }
+    ensures grows { Grows (known types.old scope.old) (known types.new scope.new) }
 {
     let made = choice_of_values(scope, types, x)?;
     Ok(Part::Value(made))
@@ -386,9 +394,10 @@ fn choice_with_value(
     a: Boxed<TypedExpr>,
     y: Part,
 ) -> Result<Part, Fault>
-    ensures { Answers part_view (assignments.choice_of_parts
+    ensures answers { Answers part_view (assignments.choice_of_parts
         (typed_expr_view condition) places.0 places.1 (AsValue (typed_expr_view a)) (part_view y)
         (known types.old scope.old)) result (known types.new scope.new) }
+    ensures grows { Grows (known types.old scope.old) (known types.new scope.new) }
 {
     let (begin, at) = places;
     match y {
@@ -408,9 +417,10 @@ fn choice_with_value(
 
 #[tactic(auto, unfolding(c_typing::specs::Assignments::choice_of_parts))]
 fn choice_of_parts(scope: &mut Scope, types: &mut Types, sides: Sides) -> Result<Part, Fault>
-    ensures { Answers part_view (assignments.choice_of_parts
+    ensures answers { Answers part_view (assignments.choice_of_parts
         (typed_expr_view sides.condition) sides.begin sides.at (part_view sides.x)
         (part_view sides.y) (known types.old scope.old)) result (known types.new scope.new) }
+    ensures grows { Grows (known types.old scope.old) (known types.new scope.new) }
 {
     let Sides {
         condition,
@@ -433,11 +443,12 @@ fn allowed_choice(
     sides: Sides,
     held: u32,
 ) -> Result<Operand, Fault>
-    ensures { Answers operand_view (next (assignments.choice_of_parts
+    ensures answers { Answers operand_view (next (assignments.choice_of_parts
         (typed_expr_view sides.condition) sides.begin sides.at (part_view sides.x)
         (part_view sides.y) (known types.old scope.old))
         (λ x. pure (record { part = x; place = sides.begin; held = held }))) result
         (known types.new scope.new) }
+    ensures grows { Grows (known types.old scope.old) (known types.new scope.new) }
 {
     let place = sides.begin;
     let part = choice_of_parts(scope, types, sides)?;
@@ -454,8 +465,9 @@ pub fn choice(
     a: Value,
     b: Value,
 ) -> Result<Operand, Fault>
-    ensures { Answers operand_view (assignments.choice (value_view c) at (value_view a)
+    ensures answers { Answers operand_view (assignments.choice (value_view c) at (value_view a)
         (value_view b) (known types.old scope.old)) result (known types.new scope.new) }
+    ensures grows { Grows (known types.old scope.old) (known types.new scope.new) }
 {
     let begin = c.place;
     let held = held_with_three(c.held, a.held, b.held);

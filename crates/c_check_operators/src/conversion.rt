@@ -7,6 +7,7 @@ ghost use Rattle.c_types.specs.declared.shape.TypeShape.TheVariants.{Pointer};
 ghost use Rattle.c_tree.specs.TypedViews.{typed_expr_view};
 ghost use Rattle.c_typing.specs.Assignments as assignments;
 ghost use Rattle.c_typing.specs.Conversions as conversions;
+ghost use Rattle.c_typing.specs.Growing.{Grows};
 ghost use Rattle.c_typing.specs.Judging.{Answers, known};
 ghost use Rattle.c_typing.specs.KindViews.{shape_or_void};
 ghost use Rattle.c_typing.specs.Operands as operands;
@@ -219,9 +220,10 @@ fn given_allocation(
     at: Place,
     e: Boxed<TypedExpr>,
 ) -> Result<Part, Fault>
-    ensures { Answers part_view (operands.given_allocation t at (typed_expr_view e)
+    ensures answers { Answers part_view (operands.given_allocation t at (typed_expr_view e)
         (conversions.is_pointer_to_complete types.old scope.old.scopes t)
         (known types.old scope.old)) result (known types.new scope.new) }
+    ensures grows { Grows (known types.old scope.old) (known types.new scope.new) }
 {
     if is_pointer_to_complete(scope, types, t) {
         return Ok(Part::Allocation(made_for(scope, t, e)?));
@@ -239,8 +241,9 @@ pub fn given(
     at: Place,
     x: Part,
 ) -> Result<Part, Fault>
-    ensures { Answers part_view (operands.given t at (part_view x) (known types.old scope.old))
-        result (known types.new scope.new) }
+    ensures answers { Answers part_view (operands.given t at (part_view x)
+        (known types.old scope.old)) result (known types.new scope.new) }
+    ensures grows { Grows (known types.old scope.old) (known types.new scope.new) }
 {
     match x {
         Part::Allocation(e) => given_allocation(scope, types, t, at, e),

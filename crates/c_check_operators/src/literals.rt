@@ -5,6 +5,7 @@ ghost use Rattle.std.specs.Prelude.{◌≡◌, IfOk};
 ghost use Rattle.c_tree.specs.Literals.{pieces_bytes};
 ghost use Rattle.c_tree.specs.Places.{pieces_place};
 ghost use Rattle.c_typing.specs.Assignments as assignments;
+ghost use Rattle.c_typing.specs.Growing.{Grows};
 ghost use Rattle.c_typing.specs.Judging.{Answers, known};
 ghost use Rattle.c_typing.specs.OperandViews.{operand_view};
 
@@ -33,8 +34,9 @@ fn pieces_place(pieces: &[StringPiece]) -> Place
 /// The type of a literal with so many bytes, the zero byte among them.
 #[tactic(auto, unfolding(c_typing::specs::Assignments::string_type))]
 fn string_type(scope: &Scope, types: &mut Types, at: Place, count: u64) -> Result<TypeId, Fault>
-    ensures { Answers (λ t. t) (assignments.string_type at count (known types.old scope.now)) result
-        (known types.new scope.now) }
+    ensures answers { Answers (λ t. t) (assignments.string_type at count
+        (known types.old scope.now)) result (known types.new scope.now) }
+    ensures grows { Grows (known types.old scope.now) (known types.new scope.now) }
 {
     if CHAR.0 >= types.count() || !types.is_complete(CHAR) || count == 0 {
         return Err(no_room(at));
@@ -43,10 +45,11 @@ fn string_type(scope: &Scope, types: &mut Types, at: Place, count: u64) -> Resul
 }
 
 /// Counts the bytes of a static object, and 16 more.
-#[tactic(auto, unfolding(c_typing::specs::Assignments::count_global))]
+#[tactic(auto, using(c_typing::proofs::GrowingLaws::grown), unfolding(c_typing::specs::Assignments::count_global))]
 pub fn count_global(scope: &mut Scope, types: &Types, at: Place, bytes: u64) -> Result<u64, Fault>
-    ensures { Answers (λ n. n) (assignments.count_global at bytes (known types.now scope.old))
-        result (known types.now scope.new) }
+    ensures answers { Answers (λ n. n) (assignments.count_global at bytes
+        (known types.now scope.old)) result (known types.now scope.new) }
+    ensures grows { Grows (known types.now scope.old) (known types.now scope.new) }
 {
     if !scope.add_global(bytes) {
         return Err(Fault::TooLarge {
@@ -72,8 +75,9 @@ pub fn literal(
     types: &mut Types,
     pieces: &[StringPiece],
 ) -> Result<Operand, Fault>
-    ensures { Answers operand_view (assignments.literal pieces.now (known types.old scope.old))
-        result (known types.new scope.new) }
+    ensures answers { Answers operand_view (assignments.literal pieces.now
+        (known types.old scope.old)) result (known types.new scope.new) }
+    ensures grows { Grows (known types.old scope.old) (known types.new scope.new) }
 {
     let alloc = scope.alloc();
     let place = pieces_place(pieces);

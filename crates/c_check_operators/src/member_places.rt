@@ -6,6 +6,7 @@ ghost use Rattle.c_types.specs.Layouts.{member_at};
 ghost use Rattle.c_tree.specs.TypedParts.{type_of};
 ghost use Rattle.c_tree.specs.TypedTree as typed;
 ghost use Rattle.c_tree.specs.TypedViews.{typed_expr_view, typed_place_view};
+ghost use Rattle.c_typing.specs.Growing.{Grows};
 ghost use Rattle.c_typing.specs.Judging.{Answers, known};
 ghost use Rattle.c_typing.specs.KindViews.{shape_or_void};
 ghost use Rattle.c_check_operators.specs.MemberViews.{found_view};
@@ -106,7 +107,7 @@ pub(crate) fn numbered(
 }
 
 /// The number of a member, and a node for its place.
-#[tactic(auto, unfolding(c_typing::specs::Operations::found, c_typing::specs::Judging::new_node))]
+#[tactic(auto, using(c_typing::proofs::GrowingLaws::grown), unfolding(c_typing::specs::Operations::found, c_typing::specs::Judging::new_node))]
 fn found(
     scope: &mut Scope,
     types: &Types,
@@ -114,8 +115,9 @@ fn found(
     whole: TypeId,
     name: &Identifier,
 ) -> Result<FoundMember, Fault>
-    ensures { Answers found_view (operations.found begin (shape_at types.now whole) name.now
+    ensures answers { Answers found_view (operations.found begin (shape_at types.now whole) name.now
         (known types.now scope.old)) result (known types.now scope.new) }
+    ensures grows { Grows (known types.now scope.old) (known types.now scope.new) }
 {
     let place = named_member(scope, shape_at(types, whole), name.bytes.as_slice());
     let member = numbered(scope, types, begin, place)?;
@@ -156,7 +158,7 @@ fn place_in(
         ≡ typed.Member (typed_place_view p) at name.now found.member found.node t) }
 {
     let alloc = scope.alloc();
-    let name = copied_name(alloc, name)?;
+    let name = Boxed::new(alloc, copied_name(alloc, name)?)?;
     Ok(Boxed::new(
         scope.alloc(),
         TypedPlace::Member(p, at, name, found.member, found.node, t),
@@ -173,9 +175,10 @@ fn member_of_place(
     name: &Identifier,
     p: Boxed<TypedPlace>,
 ) -> Result<Part, Fault>
-    ensures { Answers part_view (operations.member_of begin at name.now
+    ensures answers { Answers part_view (operations.member_of begin at name.now
         (AsPlace (typed_place_view p)) (known types.now scope.old)) result
         (known types.now scope.new) }
+    ensures grows { Grows (known types.now scope.old) (known types.now scope.new) }
 {
     let whole = p.get().ty();
     let i = found(scope, types, begin, whole, name)?;
@@ -193,8 +196,9 @@ fn member_of(
     name: &Identifier,
     x: Part,
 ) -> Result<Part, Fault>
-    ensures { Answers part_view (operations.member_of begin at name.now (part_view x)
+    ensures answers { Answers part_view (operations.member_of begin at name.now (part_view x)
         (known types.now scope.old)) result (known types.now scope.new) }
+    ensures grows { Grows (known types.now scope.old) (known types.now scope.new) }
 {
     match x {
         Part::Place(p) => member_of_place(scope, types, begin, at, name, p),
@@ -226,8 +230,9 @@ pub fn member(
     at: Place,
     name: &Identifier,
 ) -> Result<Operand, Fault>
-    ensures { Answers operand_view (operations.member (operand_view x) at name.now
+    ensures answers { Answers operand_view (operations.member (operand_view x) at name.now
         (known types.now scope.old)) result (known types.now scope.new) }
+    ensures grows { Grows (known types.now scope.old) (known types.now scope.new) }
 {
     let place = x.place;
     let fault = part_fault(scope, types, x.part.as_ref(), at, name);
@@ -270,7 +275,7 @@ fn place_behind(
         ≡ typed.MemberAt (typed_expr_view e) at name.now found.member found.node t) }
 {
     let alloc = scope.alloc();
-    let name = copied_name(alloc, name)?;
+    let name = Boxed::new(alloc, copied_name(alloc, name)?)?;
     Ok(Boxed::new(
         scope.alloc(),
         TypedPlace::MemberAt(e, at, name, found.member, found.node, t),
@@ -287,9 +292,10 @@ fn member_at_pointer(
     name: &Identifier,
     e: Boxed<TypedExpr>,
 ) -> Result<Part, Fault>
-    ensures { Answers part_view (operations.member_at_pointer begin at name.now (typed_expr_view e)
-        (pointee_at types.now (type_of (typed_expr_view e))) (known types.now scope.old)) result
-        (known types.now scope.new) }
+    ensures answers { Answers part_view (operations.member_at_pointer begin at name.now
+        (typed_expr_view e) (pointee_at types.now (type_of (typed_expr_view e)))
+        (known types.now scope.old)) result (known types.now scope.new) }
+    ensures grows { Grows (known types.now scope.old) (known types.now scope.new) }
 {
     let Some(whole) = pointee_at(types, e.get().ty()) else {
         return Err(no_room(begin));
@@ -308,8 +314,9 @@ pub fn pointed_member(
     at: Place,
     name: &Identifier,
 ) -> Result<Operand, Fault>
-    ensures { Answers operand_view (operations.pointed_member (value_view v) at name.now
+    ensures answers { Answers operand_view (operations.pointed_member (value_view v) at name.now
         (known types.now scope.old)) result (known types.now scope.new) }
+    ensures grows { Grows (known types.now scope.old) (known types.now scope.new) }
 {
     if let Some(fault) = value_fault(scope, types, v.expr.get(), at, name) {
         return Err(fault);

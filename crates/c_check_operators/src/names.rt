@@ -4,6 +4,7 @@
 ghost use Rattle.std.specs.Prelude.{◌≡◌, ◌&&◌, ◌||◌, not, bytes_eq, option_copied};
 ghost use Rattle.runtime_calls.specs.Prototypes.{runtime_of};
 ghost use Rattle.c_typing.specs.Assignments as assignments;
+ghost use Rattle.c_typing.specs.Growing.{Grows};
 ghost use Rattle.c_typing.specs.Judging.{Answers, known};
 ghost use Rattle.c_typing.specs.OperandViews.{part_view, operand_view};
 ghost use Rattle.c_typing.specs.Scopes.{name_in, place_among};
@@ -116,8 +117,9 @@ fn function_name(
     word: &Identifier,
     function: TypeId,
 ) -> Result<Part, Fault>
-    ensures { Answers part_view (assignments.function_name word.now function
+    ensures answers { Answers part_view (assignments.function_name word.now function
         (known types.old scope.old)) result (known types.new scope.new) }
+    ensures grows { Grows (known types.old scope.old) (known types.new scope.new) }
 {
     let alloc = scope.alloc();
     let place = scope.function(word.bytes.as_slice());
@@ -139,8 +141,9 @@ fn named_as(
     runtime: Option<Runtime>,
     what: Option<Declared>,
 ) -> Result<Part, Fault>
-    ensures { Answers part_view (assignments.named_as word.now runtime what
+    ensures answers { Answers part_view (assignments.named_as word.now runtime what
         (known types.old scope.old)) result (known types.new scope.new) }
+    ensures grows { Grows (known types.old scope.old) (known types.new scope.new) }
 {
     let alloc = scope.alloc();
     match what {
@@ -149,7 +152,7 @@ fn named_as(
             Ok(Part::Place(Boxed::new(scope.alloc(), TypedPlace::Variable(name, home, t))?))
         }
         Some(Declared::Enumerator(value)) => {
-            let name = copied_name(alloc, word)?;
+            let name = Boxed::new(alloc, copied_name(alloc, word)?)?;
             Ok(Part::Value(Boxed::new(scope.alloc(), TypedExpr::Enumerator(name, value, INT))?))
         }
         Some(Declared::Typedef(_)) => Err(no_room(word.place)),
@@ -184,8 +187,9 @@ pub fn name(
     called: bool,
     word: &Identifier,
 ) -> Result<Operand, Fault>
-    ensures { Answers operand_view (assignments.name called word.now (known types.old scope.old))
-        result (known types.new scope.new) }
+    ensures answers { Answers operand_view (assignments.name called word.now
+        (known types.old scope.old)) result (known types.new scope.new) }
+    ensures grows { Grows (known types.old scope.old) (known types.new scope.new) }
 {
     let runtime = runtime_of(word.bytes.as_slice());
     let is_runtime = matches!(runtime, Some(_));

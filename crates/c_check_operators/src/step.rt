@@ -3,6 +3,7 @@
 
 ghost use Rattle.std.specs.Prelude.{◌≡◌, [], ◌∷◌};
 ghost use Rattle.c_tree.specs.TypedTree as typed;
+ghost use Rattle.c_typing.specs.Growing.{Grows};
 ghost use Rattle.c_typing.specs.Judging.{Answers, known};
 ghost use Rattle.c_typing.specs.Operations as operations;
 ghost use Rattle.c_typing.specs.OperandViews.{part_view, operand_view};
@@ -99,8 +100,9 @@ fn step_before(
     at: Place,
     x: Operand,
 ) -> Result<Operand, Fault>
-    ensures { Answers operand_view (operations.step_before operator at (operand_view x)
+    ensures answers { Answers operand_view (operations.step_before operator at (operand_view x)
         (known types.old scope.old)) result (known types.new scope.new) }
+    ensures grows { Grows (known types.old scope.old) (known types.new scope.new) }
 {
     let fault = step_fault(scope, types, at, &x.part);
     let allowed = allowed(fault, at, x)?;
@@ -121,8 +123,9 @@ pub fn step_after(
     at: Place,
     x: Operand,
 ) -> Result<Operand, Fault>
-    ensures { Answers operand_view (operations.step_after operator at (operand_view x)
+    ensures answers { Answers operand_view (operations.step_after operator at (operand_view x)
         (known types.old scope.old)) result (known types.new scope.new) }
+    ensures grows { Grows (known types.old scope.old) (known types.new scope.new) }
 {
     let begin = x.place;
     let fault = step_fault(scope, types, at, &x.part);
@@ -144,8 +147,9 @@ pub fn prefix(
     at: Place,
     x: Operand,
 ) -> Result<Operand, Fault>
-    ensures { Answers operand_view (operations.prefix operator at (operand_view x)
+    ensures answers { Answers operand_view (operations.prefix operator at (operand_view x)
         (known types.old scope.old)) result (known types.new scope.new) }
+    ensures grows { Grows (known types.old scope.old) (known types.new scope.new) }
 {
     match operator {
         Unary::Increment => step_before(scope, types, Step::Increment, at, x),

@@ -5,6 +5,7 @@ ghost use Rattle.std.specs.Prelude.{◌≡◌, IfOk, IfSome, true, option_map};
 ghost use Rattle.c_types.specs.Sound.{IsIntegerSize};
 ghost use Rattle.c_tree.specs.TypedParts.{type_of};
 ghost use Rattle.c_tree.specs.TypedViews.{typed_expr_view};
+ghost use Rattle.c_typing.specs.Growing.{Grows};
 ghost use Rattle.c_typing.specs.Judging.{Answers, known};
 ghost use Rattle.c_typing.specs.Judging as judging;
 ghost use Rattle.c_typing.specs.KindViews.{kind_view};
@@ -63,8 +64,9 @@ fn pointed(scope: &Scope, types: &Types, at: Place, e: Boxed<TypedExpr>) -> Resu
 
 #[tactic(auto, unfolding(c_typing::specs::Operations::target_of, c_typing::specs::Operations::construct, c_typing::specs::Judging::holding))]
 fn target_of(scope: &mut Scope, types: &mut Types, at: Place, v: Value) -> Result<Operand, Fault>
-    ensures { Answers operand_view (operations.target_of at (value_view v)
+    ensures answers { Answers operand_view (operations.target_of at (value_view v)
         (known types.old scope.old)) result (known types.new scope.new) }
+    ensures grows { Grows (known types.old scope.old) (known types.new scope.new) }
 {
     if let Some(fault) = target_fault(scope, types, at, v.expr.get()) {
         return Err(fault);
@@ -86,8 +88,9 @@ pub(crate) fn target(
     at: Place,
     x: Operand,
 ) -> Result<Operand, Fault>
-    ensures { Answers operand_view (operations.target at (operand_view x)
+    ensures answers { Answers operand_view (operations.target at (operand_view x)
         (known types.old scope.old)) result (known types.new scope.new) }
+    ensures grows { Grows (known types.old scope.old) (known types.new scope.new) }
 {
     let v = value(scope, types, x)?;
     target_of(scope, types, at, v)
@@ -188,8 +191,9 @@ fn prefix_of(
     v: Value,
 ) -> Result<Operand, Fault>
     requires { operations.is_arithmetic_prefix operator ≡ true }
-    ensures { Answers operand_view (operations.prefix_of operator at (value_view v)
+    ensures answers { Answers operand_view (operations.prefix_of operator at (value_view v)
         (known types.old scope.old)) result (known types.new scope.new) }
+    ensures grows { Grows (known types.old scope.old) (known types.new scope.new) }
 {
     if let Some(fault) = prefix_fault(scope, types, operator, at, v.expr.get()) {
         return Err(fault);
@@ -212,9 +216,10 @@ pub(crate) fn computed(
     x: Operand,
 ) -> Result<Operand, Fault>
     requires { operations.is_arithmetic_prefix operator ≡ true }
-    ensures { Answers operand_view (judging.next (operands.value (operand_view x)
+    ensures answers { Answers operand_view (judging.next (operands.value (operand_view x)
         (known types.old scope.old)) (operations.prefix_of operator at)) result
         (known types.new scope.new) }
+    ensures grows { Grows (known types.old scope.old) (known types.new scope.new) }
 {
     let v = value(scope, types, x)?;
     prefix_of(scope, types, operator, at, v)

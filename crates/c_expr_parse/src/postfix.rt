@@ -17,7 +17,7 @@ use c_parse_words::lookahead::{Suffix, has_suffix, is_close_bracket, is_close_pa
 use c_parse_words::measured::Measured;
 use c_parse_words::stop::Stop;
 use c_parse_words::words::Scope;
-use c_tree::{Declarator, Expr, MemberOperator, Specifiers, Step};
+use c_tree::{Boxed, Declarator, Expr, MemberOperator, Specifiers, Step};
 use cc_base::Place;
 use indexmap::IndexSet;
 use std::alloc::Global;
@@ -125,7 +125,7 @@ impl<
     {
         let e = boxed(self.alloc, e)?;
         cursor.take_above(self.depth, e.height)?;
-        let name = cursor.take_name(self.alloc)?;
+        let name = Boxed::new(self.alloc, cursor.take_name(self.alloc)?)?;
         Ok(Measured {
             height: 1 + e.height,
             tree: Expr::Member(e.tree, op, at, name),

@@ -13,7 +13,7 @@ use c_parse_words::begins::{Naming, begins_expr};
 use c_parse_words::cursor::Cursor;
 use c_parse_words::stop::Stop;
 use c_parse_words::words::Scope;
-use c_tree::{Declarator, Expr, Initialiser, Specifiers};
+use c_tree::{Boxed, Declarator, Expr, Initialiser, Specifiers};
 use indexmap::IndexSet;
 use std::alloc::Global;
 
@@ -62,20 +62,20 @@ impl<'a> Reader<'a> {
 
     /// An expression that may be left out.
     #[tactic(auto, unfolding(crate::specs::StatementRules::optional))]
-    pub fn optional(&self, cursor: &mut Cursor<'_>) -> Result<Option<Expr>, Stop>
+    pub fn optional(&self, cursor: &mut Cursor<'_>) -> Result<Option<Boxed<Expr>>, Stop>
         ensures { Reads (λ e. option_map expr_view e) (spec.optional
             (names_of self.now.names.now) self.now.depth cursor.old) result cursor.new }
     {
         if !begins_expr(self.names, cursor.peek()) {
             return Ok(None);
         }
-        let e = self.expr(cursor, 0)?;
+        let e = Boxed::new(self.alloc, self.expr(cursor, 0)?)?;
         Ok(Some(e))
     }
 
     /// An expression that may be left out, and the `;` after it.
     #[tactic(auto, unfolding(crate::specs::StatementRules::optional_then))]
-    pub fn optional_semicolon(&self, cursor: &mut Cursor<'_>) -> Result<Option<Expr>, Stop>
+    pub fn optional_semicolon(&self, cursor: &mut Cursor<'_>) -> Result<Option<Boxed<Expr>>, Stop>
         ensures { Reads (λ e. option_map expr_view e) (spec.optional_then
             (names_of self.now.names.now) self.now.depth is_semicolon cursor.old) result
             cursor.new }
@@ -87,7 +87,7 @@ impl<'a> Reader<'a> {
 
     /// An expression that may be left out, and the `)` after it.
     #[tactic(auto, unfolding(crate::specs::StatementRules::optional_then))]
-    pub fn optional_close_paren(&self, cursor: &mut Cursor<'_>) -> Result<Option<Expr>, Stop>
+    pub fn optional_close_paren(&self, cursor: &mut Cursor<'_>) -> Result<Option<Boxed<Expr>>, Stop>
         ensures { Reads (λ e. option_map expr_view e) (spec.optional_then
             (names_of self.now.names.now) self.now.depth is_close_paren cursor.old) result
             cursor.new }
@@ -99,11 +99,11 @@ impl<'a> Reader<'a> {
 
     /// An expression in parentheses, after the `(`.
     #[tactic(auto, unfolding(crate::specs::StatementRules::condition))]
-    pub fn condition(&self, cursor: &mut Cursor<'_>) -> Result<Expr, Stop>
+    pub fn condition(&self, cursor: &mut Cursor<'_>) -> Result<Boxed<Expr>, Stop>
         ensures { Reads expr_view (spec.condition (names_of self.now.names.now) self.now.depth
             cursor.old) result cursor.new }
     {
-        let e = self.expr(cursor, 0)?;
+        let e = Boxed::new(self.alloc, self.expr(cursor, 0)?)?;
         expect_close_paren(cursor)?;
         Ok(e)
     }

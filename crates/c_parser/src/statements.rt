@@ -23,8 +23,8 @@ use std::alloc::Global;
 /// How a `for` begins.
 #[derive(Drop)]
 pub enum ForStart {
-    Expr(Option<Expr>),
-    Declaration(Declaration),
+    Expr(Option<Boxed<Expr>>),
+    Declaration(Boxed<Declaration>),
 }
 
 /// The statement of a `for` from its parts.
@@ -33,8 +33,8 @@ fn made_for(
     at: Place,
     paren: Place,
     start: ForStart,
-    test: Option<Expr>,
-    step: Option<Expr>,
+    test: Option<Boxed<Expr>>,
+    step: Option<Boxed<Expr>>,
     body: Boxed<Statement>,
 ) -> Statement
     ensures { statement_view result ≡ for_made at paren start (option_map expr_view test)
@@ -93,7 +93,7 @@ impl<
         cursor: &mut Cursor<'_>,
         at: Place,
         paren: Place,
-        test: Expr,
+        test: Boxed<Expr>,
         then: Boxed<Statement>,
     ) -> Result<Statement, Stop>
         requires { NestsStatements self.now.reader.names.now self.now.reader.depth
@@ -227,7 +227,7 @@ impl<
             (spec.statement (names_of self.now.reader.names.now) self.now.reader.depth) at paren
             cursor.old) result cursor.new }
     {
-        let first = self.reader.declaration(cursor)?;
+        let first = Boxed::new(self.reader.alloc, self.reader.declaration(cursor)?)?;
         self.for_rest(cursor, at, paren, ForStart::Declaration(first))
     }
 

@@ -13,7 +13,7 @@ ghost use Rattle.c_printed.specs.Printing.{Prints};
 use crate::found::Found;
 use crate::printing::{declarator, expr, place, specifiers};
 use c_tree::{
-    TypedBlockItem, TypedDeclaration, TypedExpr, TypedExternal, TypedInitDeclarator,
+    Boxed, TypedBlockItem, TypedDeclaration, TypedExpr, TypedExternal, TypedInitDeclarator,
     TypedInitialiser, TypedItem, TypedStatement, TypedUnit,
 };
 
@@ -82,11 +82,11 @@ fn declaration(out: &mut Found, one: &TypedDeclaration)
 }
 
 /// An expression that may be left out.
-fn optional(out: &mut Found, one: &Option<TypedExpr>)
+fn optional(out: &mut Found, one: &Option<Boxed<TypedExpr>>)
     ensures { Prints (made_by_optional (option_map typed_expr_view one.now)) out.old out.new }
 {
     match one {
-        Some(e) => expr(out, e),
+        Some(e) => expr(out, e.get()),
         None => {}
     }
 }
@@ -101,25 +101,25 @@ fn statement(out: &mut Found, one: &TypedStatement)
         TypedStatement::Express(e) => expr(out, e),
         TypedStatement::Empty => {}
         TypedStatement::If(_, _, c, s) => {
-            expr(out, c);
+            expr(out, c.get());
             statement(out, s.get())
         }
         TypedStatement::IfElse(_, _, c, s, other) => {
-            expr(out, c);
+            expr(out, c.get());
             statement(out, s.get());
             statement(out, other.get())
         }
         TypedStatement::Switch(_, _, e, _, items) => {
-            expr(out, e);
+            expr(out, e.get());
             block(out, items.as_slice())
         }
         TypedStatement::While(_, _, c, s) => {
-            expr(out, c);
+            expr(out, c.get());
             statement(out, s.get())
         }
         TypedStatement::DoWhile(s, _, _, c) => {
             statement(out, s.get());
-            expr(out, c)
+            expr(out, c.get())
         }
         TypedStatement::For(_, _, first, test, step, s) => {
             optional(out, first);
@@ -128,7 +128,7 @@ fn statement(out: &mut Found, one: &TypedStatement)
             statement(out, s.get())
         }
         TypedStatement::ForDeclaration(_, _, first, test, step, s) => {
-            declaration(out, first);
+            declaration(out, first.get());
             optional(out, test);
             optional(out, step);
             statement(out, s.get())

@@ -15,7 +15,7 @@ use Rattle.c_tree.specs.declared.typed_word.Home.TheVariants as home
 use Rattle.c_tree.specs.declared.typed_word.Runtime.{Runtime}
 use Rattle.c_tree.specs.TypedTree as typed
 use Rattle.c_tree.specs.TypedTree.{TypedExpr, TypedPlace, TypedArguments, TypedTypeName, TypedSpecifiers, TypedSpecifierList, TypedSpecifier, TypedMembers, TypedMemberDeclarators, TypedEnumerators, TypedForm, TypedCore, TypedParts, TypedParameters, TypedDeclared, TypedInitialiser, TypedItems, TypedInitDeclarators, TypedDeclaration, TypedStatement, TypedBlockItems, TypedTranslationUnit}
-use Rattle.c_tree.specs.TypedParts.{specified_type, type_of, item_place, home_of_form, declared_home, is_void_list}
+use Rattle.c_tree.specs.TypedParts.{specified_type, type_of, item_place, home_of_form, is_void_list}
 use Rattle.c_typing.specs.declared.declared.Declared.{Declared}
 use Rattle.c_typing.specs.declared.declared.Declared.TheVariants as declared
 use Rattle.c_typing.specs.declared.declared.Tag.{Tag}

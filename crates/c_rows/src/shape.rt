@@ -145,7 +145,7 @@ impl<'a> Writing<'a> {
                 }),
                 Piece::Expr(e.get()),
                 Text(b" "),
-                Text(name.bytes.as_slice()),
+                Text(name.get().bytes.as_slice()),
                 Text(b"}"),
             ]),
             Expr::Postfix(e, Step::Increment, _) => self.one(b"{after++ ", e.get()),

@@ -23,17 +23,17 @@ use Rattle.c_tree.specs.declared.typed_word.Side.{Side}
 use Rattle.c_tree.specs.declared.typed_word.TypedStar.{TypedStar}
 use Rattle.c_tree.specs.declared.typed_expr.TypedCore.TheOpen as layer
 use Rattle.c_tree.specs.declared.typed_expr.TypedCore.TheFolds.{fold-roll-TypedCore, fold-roll-TypedEnumerator, fold-roll-TypedExpr, fold-roll-TypedPart, fold-roll-TypedPlace, fold-roll-TypedSpecifier, fold-roll-TypedDeclarator, fold-roll-TypedForm, fold-roll-TypedMembers, fold-roll-TypedParameter, fold-roll-TypedSpecifiers, fold-roll-TypedTypeName}
-use Rattle.c_tree.specs.declared.typed_expr.TypedCore.{TypedCore, roll-TypedCore}
+use Rattle.c_tree.specs.declared.typed_expr.TypedCore.{TypedCore}
 use Rattle.c_tree.specs.declared.typed_expr.TypedCore.TheVariants as core
-use Rattle.c_tree.specs.declared.typed_expr.TypedEnumerator.{TypedEnumerator, roll-TypedEnumerator}
+use Rattle.c_tree.specs.declared.typed_expr.TypedEnumerator.{TypedEnumerator}
 use Rattle.c_tree.specs.declared.typed_expr.TypedEnumerator.TheVariants as enumerator
-use Rattle.c_tree.specs.declared.typed_expr.TypedExpr.{TypedExpr, roll-TypedExpr}
+use Rattle.c_tree.specs.declared.typed_expr.TypedExpr.{TypedExpr}
 use Rattle.c_tree.specs.declared.typed_expr.TypedExpr.TheVariants as expr
-use Rattle.c_tree.specs.declared.typed_expr.TypedPart.{TypedPart, roll-TypedPart}
+use Rattle.c_tree.specs.declared.typed_expr.TypedPart.{TypedPart}
 use Rattle.c_tree.specs.declared.typed_expr.TypedPart.TheVariants as part
-use Rattle.c_tree.specs.declared.typed_expr.TypedPlace.{TypedPlace, roll-TypedPlace}
+use Rattle.c_tree.specs.declared.typed_expr.TypedPlace.{TypedPlace}
 use Rattle.c_tree.specs.declared.typed_expr.TypedPlace.TheVariants as place
-use Rattle.c_tree.specs.declared.typed_expr.TypedSpecifier.{TypedSpecifier, roll-TypedSpecifier}
+use Rattle.c_tree.specs.declared.typed_expr.TypedSpecifier.{TypedSpecifier}
 use Rattle.c_tree.specs.declared.typed_expr.TypedSpecifier.TheVariants as specifier
 use Rattle.c_tree.specs.declared.typed_expr.TypedDeclarator.{TypedDeclarator, roll-TypedDeclarator}
 use Rattle.c_tree.specs.declared.typed_expr.TypedForm.{TypedForm, roll-TypedForm}

@@ -25,7 +25,7 @@ pub enum Expr {
     /// The function, the `(` and the arguments.
     Call(Boxed<Expr>, Place, Items<Expr>),
     /// The struct or union, or the pointer to one; the operator; the member.
-    Member(Boxed<Expr>, MemberOperator, Place, Identifier),
+    Member(Boxed<Expr>, MemberOperator, Place, Boxed<Identifier>),
     /// `++` or `--` after its operand.
     Postfix(Boxed<Expr>, Step, Place),
     Prefix(Unary, Place, Boxed<Expr>),

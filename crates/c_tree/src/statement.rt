@@ -27,7 +27,7 @@ pub struct Declaration {
 }
 
 /// A statement (C99 6.8). The places before an expression in parentheses are those of the keyword
-/// and of the `(`.
+/// and of the `(`. Parts stand in boxes, so that no variant is much larger than `;`.
 #[cycle(statements)]
 #[derive(Drop)]
 pub enum Statement {
@@ -36,18 +36,32 @@ pub enum Statement {
     Express(Expr),
     /// `;` alone.
     Empty,
-    If(Place, Place, Expr, Boxed<Statement>),
-    IfElse(Place, Place, Expr, Boxed<Statement>, Boxed<Statement>),
+    If(Place, Place, Boxed<Expr>, Boxed<Statement>),
+    IfElse(Place, Place, Boxed<Expr>, Boxed<Statement>, Boxed<Statement>),
     /// The third place is that of the `{`.
-    Switch(Place, Place, Expr, Place, Items<BlockItem>),
-    While(Place, Place, Expr, Boxed<Statement>),
+    Switch(Place, Place, Boxed<Expr>, Place, Items<BlockItem>),
+    While(Place, Place, Boxed<Expr>, Boxed<Statement>),
     /// The places are those of `while` and its `(`.
-    DoWhile(Boxed<Statement>, Place, Place, Expr),
-    For(Place, Place, Option<Expr>, Option<Expr>, Option<Expr>, Boxed<Statement>),
-    ForDeclaration(Place, Place, Declaration, Option<Expr>, Option<Expr>, Boxed<Statement>),
+    DoWhile(Boxed<Statement>, Place, Place, Boxed<Expr>),
+    For(
+        Place,
+        Place,
+        Option<Boxed<Expr>>,
+        Option<Boxed<Expr>>,
+        Option<Boxed<Expr>>,
+        Boxed<Statement>,
+    ),
+    ForDeclaration(
+        Place,
+        Place,
+        Boxed<Declaration>,
+        Option<Boxed<Expr>>,
+        Option<Boxed<Expr>>,
+        Boxed<Statement>,
+    ),
     Break(Place),
     Continue(Place),
-    Return(Place, Option<Expr>),
+    Return(Place, Option<Boxed<Expr>>),
 }
 
 /// What a block holds. Labels stand only in the block of a `switch`, each before a statement or

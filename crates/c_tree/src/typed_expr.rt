@@ -16,7 +16,7 @@ pub enum TypedExpr {
     /// A character constant, which is an int.
     Character(i32, Place, TypeId),
     /// An enumeration constant and its value.
-    Enumerator(Identifier, i128, TypeId),
+    Enumerator(Boxed<Identifier>, i128, TypeId),
     /// The address of the function that the unit defines under this number; silent.
     FunctionName(Identifier, u32, NodeId, TypeId),
     /// A runtime function, where it is called.
@@ -94,9 +94,9 @@ pub enum TypedPlace {
     /// `a[b]`.
     Element(Side, Boxed<TypedExpr>, Place, Boxed<TypedExpr>, TypeId),
     /// `.` with the number of the member and the node of its place.
-    Member(Boxed<TypedPlace>, Place, Identifier, u32, NodeId, TypeId),
+    Member(Boxed<TypedPlace>, Place, Boxed<Identifier>, u32, NodeId, TypeId),
     /// `->` with the number of the member and the node of its place.
-    MemberAt(Boxed<TypedExpr>, Place, Identifier, u32, NodeId, TypeId),
+    MemberAt(Boxed<TypedExpr>, Place, Boxed<Identifier>, u32, NodeId, TypeId),
     StructAssign(Boxed<TypedPlace>, Place, Boxed<TypedPlace>),
     StructConditional(Boxed<TypedExpr>, Place, Boxed<TypedPlace>, Boxed<TypedPlace>),
     StructComma(Boxed<TypedExpr>, Boxed<TypedPlace>),

@@ -43,7 +43,7 @@ pub struct TypedDeclaration {
 }
 
 /// A statement (C99 6.8). The places before an expression in parentheses are those of the keyword
-/// and of the `(`.
+/// and of the `(`. Parts stand in boxes, as in `Statement`.
 #[cycle(typed_statements)]
 #[derive(Drop)]
 pub enum TypedStatement {
@@ -52,33 +52,33 @@ pub enum TypedStatement {
     Express(TypedExpr),
     /// `;` alone.
     Empty,
-    If(Place, Place, TypedExpr, Boxed<TypedStatement>),
-    IfElse(Place, Place, TypedExpr, Boxed<TypedStatement>, Boxed<TypedStatement>),
+    If(Place, Place, Boxed<TypedExpr>, Boxed<TypedStatement>),
+    IfElse(Place, Place, Boxed<TypedExpr>, Boxed<TypedStatement>, Boxed<TypedStatement>),
     /// The third place is that of the `{`.
-    Switch(Place, Place, TypedExpr, Place, Items<TypedBlockItem>),
-    While(Place, Place, TypedExpr, Boxed<TypedStatement>),
+    Switch(Place, Place, Boxed<TypedExpr>, Place, Items<TypedBlockItem>),
+    While(Place, Place, Boxed<TypedExpr>, Boxed<TypedStatement>),
     /// The places are those of `while` and its `(`.
-    DoWhile(Boxed<TypedStatement>, Place, Place, TypedExpr),
+    DoWhile(Boxed<TypedStatement>, Place, Place, Boxed<TypedExpr>),
     For(
         Place,
         Place,
-        Option<TypedExpr>,
-        Option<TypedExpr>,
-        Option<TypedExpr>,
+        Option<Boxed<TypedExpr>>,
+        Option<Boxed<TypedExpr>>,
+        Option<Boxed<TypedExpr>>,
         Boxed<TypedStatement>,
     ),
     ForDeclaration(
         Place,
         Place,
-        TypedDeclaration,
-        Option<TypedExpr>,
-        Option<TypedExpr>,
+        Boxed<TypedDeclaration>,
+        Option<Boxed<TypedExpr>>,
+        Option<Boxed<TypedExpr>>,
         Boxed<TypedStatement>,
     ),
     Break(Place),
     Continue(Place),
     /// The value, converted to the type of the function's result.
-    Return(Place, Option<TypedExpr>),
+    Return(Place, Option<Boxed<TypedExpr>>),
 }
 
 /// What a block holds. Labels stand only in the block of a `switch`.

@@ -18,7 +18,7 @@ use Rattle.c_typing.specs.Adjusting.{derived_by_declared, typedef_place, adjuste
 use Rattle.c_typing.specs.Assignments
 use Rattle.c_typing.specs.Declarators.{Counted, counted, declarator_names, member_names}
 use Rattle.c_typing.specs.Declarators
-use Rattle.c_typing.specs.Declaring.{declarator_name, home_as, stars_with_nodes, sized, declared_makes, member_named, parameter, entered, left}
+use Rattle.c_typing.specs.Declaring.{declarator_name, home_as, stars_with_nodes, sized, declared_makes, member_named, parameter, entered, left, stopped_outside}
 use Rattle.c_typing.specs.Judging.{State, Gives, next, pure}
 use Rattle.c_typing.specs.Operands.{Operand, Value, value}
 use Rattle.c_typing.specs.Operations
@@ -33,7 +33,7 @@ use Rattle.c_typing_laws.proofs.JudgedDeclarators.{IsVoidOf, first_alone, form_n
 use Rattle.c_typing_laws.proofs.JudgedLists.{list-typed}
 use Rattle.c_typing_laws.proofs.JudgedSpecifiers.{begun-judged, enumeration_begun-judged}
 use Rattle.c_typing_laws.proofs.JudgedTrees.{value-here, expr-judged, arguments-judged, type_name-judged, specifiers-judged, members-judged, row-judged, enumerators-judged, form-judged, core-judged, parts-judged, parameters-judged, begun_goes, void_self}
-use Rattle.c_typing_laws.proofs.Outcomes.{bind-gives, never-gives}
+use Rattle.c_typing_laws.proofs.Outcomes.{bind-gives, never-gives, outside-gives}
 use Rattle.c_typing_laws.proofs.ValuesTaken.{given-same}
 use Rattle.c_typing_laws.proofs.NumberedTrees.{operand-whole}
 use Rattle.c_type_order.specs.TypesUsed.{types_of, made_in, declared_steps, used_by, used_by_specifier_list, used_by_specifier, used_by_members, used_by_member_declarators, used_by_enumerators, used_by_form, used_by_core, used_by_parts, used_by_parameters, used_by_declared}
@@ -287,13 +287,13 @@ mutual
   parts-use (tree.AndFunction all paren parameters) at parts s r k h =
       let void = is_void_alone parameters in
       let one = bind-gives (judge_parts at all s) (λ p. λ m. next (entered m)
-      (λ b. λ i. next (judge_parameters void parameters i) (λ list. λ n. next (left at list n) (λ whole. pure (typed.AndFunction p paren whole))))) parts r h in
+      (λ b. λ i. next (stopped_outside (judge_parameters void parameters i)) (λ list. λ n. next (left at list n) (λ whole. pure (typed.AndFunction p paren whole))))) parts r h in
       let known = (parts-judged all at one.0 s one.1 k one.2).goes.known in
       let two = bind-gives (entered one.1)
-      (λ b. λ i. next (judge_parameters void parameters i) (λ list. λ n. next (left at list n) (λ whole. pure (typed.AndFunction one.0 paren whole)))) parts r one.3 in
+      (λ b. λ i. next (stopped_outside (judge_parameters void parameters i)) (λ list. λ n. next (left at list n) (λ whole. pure (typed.AndFunction one.0 paren whole)))) parts r one.3 in
       let inside = entered-judged two.0 one.1 two.1 known two.2 in
-      let three = bind-gives (judge_parameters void parameters two.1) (λ list. λ n. next (left at list n) (λ whole. pure (typed.AndFunction one.0 paren whole))) parts r two.3 in
-      let made = parameters-use parameters void three.0 two.1 three.1 (void_self parameters) inside.1.known three.2 in
+      let three = bind-gives (stopped_outside (judge_parameters void parameters two.1)) (λ list. λ n. next (left at list n) (λ whole. pure (typed.AndFunction one.0 paren whole))) parts r two.3 in
+      let made = parameters-use parameters void three.0 two.1 three.1 (void_self parameters) inside.1.known (outside-gives (judge_parameters void parameters two.1) three.0 three.1 three.2) in
       let four = bind-gives (left at three.0 three.1) (λ whole. pure (typed.AndFunction one.0 paren whole)) parts r three.3 in
       given-same (λ (v : TypedParts) (q : State). IsUsed (λ U. used_by_parts U v) s.table q.table) (typed.AndFunction one.0 paren four.0) parts four.1 r four.3
       (then_used (λ U. used_by_parts U one.0) (λ U. used_by_parameters U four.0) s.table one.1.table four.1.table (parts-use all at one.0 s one.1 k one.2)

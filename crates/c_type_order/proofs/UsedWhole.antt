@@ -15,7 +15,7 @@ use Rattle.c_typing.specs.Checking.{checked, taken, value_tests, converted_part,
 use Rattle.c_typing.specs.Constants.{constant_value}
 use Rattle.c_typing.specs.Conversions.{implicit}
 use Rattle.c_typing.specs.Declarators.{Written, Counts, nearest, is_derived_core}
-use Rattle.c_typing.specs.Declaring.{NotDerived, derived_by, is_function_by, unless_function, form_makes, entered, left}
+use Rattle.c_typing.specs.Declaring.{NotDerived, derived_by, is_function_by, unless_function, form_makes, entered, left, stopped_outside}
 use Rattle.c_typing.specs.Judging.{State, Gives, next, pure}
 use Rattle.c_typing.specs.Operands.{Operand, Value, value, side_of}
 use Rattle.c_typing.specs.Refusals.{is_void_alone}
@@ -31,7 +31,7 @@ use Rattle.c_typing_laws.proofs.JudgedTrees.{void_self}
 use Rattle.c_typing_laws.proofs.KnownScopes.{tag_here-there}
 use Rattle.c_typing_laws.proofs.NumberedConstructs.{IsWhole}
 use Rattle.c_typing_laws.proofs.NumberedTrees.{operand-whole}
-use Rattle.c_typing_laws.proofs.Outcomes.{bind-gives, unless-gives, never-gives}
+use Rattle.c_typing_laws.proofs.Outcomes.{bind-gives, unless-gives, never-gives, outside-gives}
 use Rattle.c_typing_laws.proofs.ValuesTaken.{given-same}
 use Rattle.c_type_order.specs.TypesUsed.{types_of, made_in, function_steps, parts_steps, form_steps, core_steps, used_by, used_by_specifiers, used_by_specifier_list, used_by_declarator, used_by_form, used_by_parameters}
 use Rattle.c_type_order.specs.Uses.{IsUsed, used_by_part}
@@ -137,10 +137,10 @@ pub prototype-used : (at : Place) (all : tree.Parameters) (list : TypedParameter
     → IsUsed (λ U. used_by_parameters U list) s.table r.table
 unfolding judge_prototype
 prototype-used at all list s r k h =
-    let one = bind-gives (entered s) (λ b. λ m. next (judge_parameters (is_void_alone all) all m) (left at)) list r h in
+    let one = bind-gives (entered s) (λ b. λ m. next (stopped_outside (judge_parameters (is_void_alone all) all m)) (left at)) list r h in
     let inside = entered-judged one.0 s one.1 k one.2 in
-    let two = bind-gives (judge_parameters (is_void_alone all) all one.1) (left at) list r one.3 in
-    scoped at one.0 two.0 list s one.1 two.1 r one.2 two.3 (parameters-use all (is_void_alone all) two.0 one.1 two.1 (void_self all) inside.1.known two.2)
+    let two = bind-gives (stopped_outside (judge_parameters (is_void_alone all) all one.1)) (left at) list r one.3 in
+    scoped at one.0 two.0 list s one.1 two.1 r one.2 two.3 (parameters-use all (is_void_alone all) two.0 one.1 two.1 (void_self all) inside.1.known (outside-gives (judge_parameters (is_void_alone all) all one.1) two.0 two.1 two.2))
 
 -- Values
 

@@ -3,3 +3,5 @@ pub mod TypeSearch
 pub mod SameLaws
 pub mod KindLaws
 pub mod ValueLaws
+pub mod OpenScopes
+pub mod GrowingLaws

@@ -1,15 +1,18 @@
 -- Laws on scopes, and on what is seen of the maps that keep them.
-use Rattle.std.proofs.Common.{◌≡◌, ℕ, suc, ◌+◌, ◌-◌, not, ◌<◌, Bool, true, false, cond, List, [], ◌∷◌, ◌++◌, length, take, get_or, slice_set, map, nat_lt, Result, Ok, Err, OnOk, Option, Some, None, refl, ap, sym, ◌∙◌, bytes_eq, subst, ◌||◌, arith}
+use Rattle.std.proofs.Common.{◌≡◌, ℕ, suc, ◌+◌, ◌-◌, not, ◌<◌, Bool, true, false, cond, List, [], ◌∷◌, ◌++◌, length, take, get_or, slice_set, map, nat_lt, Result, Ok, Err, OnOk, Option, Some, None, refl, ap, sym, ◌∙◌, bytes_eq, subst, ◌||◌, append-nil, if◌then◌else◌, arith}
 use Rattle.std.specs.List.{list_any, position, position_or_len}
-use Rattle.std.proofs.lemmas.List.{length-map}
+use Rattle.std.specs.Option.{option_to_list}
+use Rattle.std.proofs.lemmas.List.{length-map, map-append}
 use Rattle.std.proofs.lemmas.Bool.Decides.{nat_tests}
 use Rattle.std.proofs.lemmas.Option.{none-some}
 use Rattle.indexmap.specs.IndexMap.{insert_entry}
 use Rattle.indexmap.specs.IndexSet.{insert_key}
 use Rattle.c_typing.specs.declared.declared.Declared.{Declared}
 use Rattle.c_typing.specs.declared.declared.Tag.{Tag}
+use Rattle.named_lists.specs.Stacks.{stack_of, top_of, without_top, with_top, AreStacksOf, ChangesStack, GetsList, HaveSameStacks, LosesList, entries_of}
 use Rattle.named_lists.proofs.EntryLaws.{insert-seen, entry-last}
-use Rattle.c_typing.specs.Scopes.{Name, Level, Seen, entry_of, with_entry, seen_entries, with_name, with_tag, with_tag_set, with_scopes, leaving, here, tag_here, at_innermost, or_outer, name_in, tag_in, innermost, without_innermost, place_among}
+use Rattle.named_lists.proofs.StackLaws.{entries-pushed, last-pushed, last-set, top-later, top-some, without-pushed}
+use Rattle.c_typing.specs.Scopes.{Name, Level, Seen, entry_of, with_entry, seen_entries, with_name, with_tag, with_tag_set, with_scopes, empty_level, tag_here, at_innermost, or_outer, name_in, tag_in, innermost, without_innermost, place_among}
 
 abbrev level : List (Name × Declared) → List (Name × Tag) → Level
 level names tags = record { names = names; tags = tags }
@@ -37,26 +40,131 @@ tags-set bytes eq same es changed names k name what l seen named made =
     ∙ insert-seen bytes eq k what (same k) es
     ∙ ap (λ n. with_entry n what (seen_entries bytes es)) named))
 
--- the innermost scope is the last
-pub innermost-last : (l : Level) (ls : List Level) (d : Level) → 0 < length ls → innermost (l ∷ ls) ≡ get_or ls (length ls - 1) d
-innermost-last l [] d h = absurd (omega arith)
-innermost-last l (m ∷ []) d h = refl
-innermost-last l (m ∷ (k ∷ ls)) d h =
-    let e : length ls ≡ length (k ∷ ls) - 1 = omega arith in
-    let f : suc (length ls) ≡ length (m ∷ (k ∷ ls)) - 1 = omega arith in
-    innermost-last m (k ∷ ls) d (omega arith)
-    ∙ ap (λ i. get_or (k ∷ ls) i d) (sym e)
-    ∙ ap (λ i. get_or (m ∷ (k ∷ ls)) i d) f
+-- The innermost of several scopes
 
-pub without-last : (l : Level) (ls : List Level) → 0 < length ls → without_innermost (l ∷ ls) ≡ l ∷ take (length ls - 1) ls
-without-last l [] h = absurd (omega arith)
-without-last l (m ∷ []) h = refl
-without-last l (m ∷ (k ∷ ls)) h =
-    let e : length ls ≡ length (k ∷ ls) - 1 = omega arith in
-    let f : suc (length ls) ≡ length (m ∷ (k ∷ ls)) - 1 = omega arith in
-    ap (λ r. l ∷ r) (without-last m (k ∷ ls) (omega arith)
-    ∙ ap (λ i. m ∷ take i (k ∷ ls)) (sym e)
-    ∙ ap (λ i. take i (m ∷ (k ∷ ls))) f)
+pub innermost-last : (ls : List Level) (d : Level) → 0 < length ls → innermost ls ≡ get_or ls (length ls - 1) d
+innermost-last [] d h = absurd (omega arith)
+innermost-last (l ∷ []) d h = refl
+innermost-last (l ∷ (m ∷ ls)) d h =
+    let e : length ls ≡ length (m ∷ ls) - 1 = omega arith in
+    let f : suc (length ls) ≡ length (l ∷ (m ∷ ls)) - 1 = omega arith in
+    innermost-last (m ∷ ls) d (omega arith)
+    ∙ ap (λ i. get_or (m ∷ ls) i d) (sym e)
+    ∙ ap (λ i. get_or (l ∷ (m ∷ ls)) i d) f
+
+pub without-last : (ls : List Level) → without_innermost ls ≡ take (length ls - 1) ls
+without-last [] = refl
+without-last (l ∷ []) = refl
+without-last (l ∷ (m ∷ ls)) =
+    let e : length ls ≡ length (m ∷ ls) - 1 = omega arith in
+    let f : suc (length ls) ≡ length (l ∷ (m ∷ ls)) - 1 = omega arith in
+    ap (λ r. l ∷ r) (without-last (m ∷ ls) ∙ ap (λ i. take i (m ∷ ls)) (sym e))
+    ∙ ap (λ i. take i (l ∷ (m ∷ ls))) f
+
+-- the last of the scopes, changed
+pub changed-last : (f : Level → Level) (ls : List Level) (m d : Level) → 0 < length ls → m ≡ f (get_or ls (length ls - 1) d)
+    → slice_set ls (length ls - 1) m ≡ at_innermost f ls
+changed-last f [] m d h e = absurd (omega arith)
+changed-last f (l ∷ []) m d h e = ap (λ x. x ∷ []) e
+changed-last f (l ∷ (k ∷ ls)) m d h e =
+    let g : length ls ≡ length (k ∷ ls) - 1 = omega arith in
+    let i : suc (length ls) ≡ length (l ∷ (k ∷ ls)) - 1 = omega arith in
+    ap (λ n. slice_set (l ∷ (k ∷ ls)) n m) (sym i)
+    ∙ ap (λ n. l ∷ slice_set (k ∷ ls) n m) g
+    ∙ ap (λ r. l ∷ r) (changed-last f (k ∷ ls) m d (omega arith)
+    (e ∙ ap (λ n. f (get_or (l ∷ (k ∷ ls)) n d)) (sym i) ∙ ap (λ n. f (get_or (k ∷ ls) n d)) g))
+
+pub at-innermost : (f : Level → Level) (ls : List Level) → 0 < length ls → at_innermost f ls ≡ without_innermost ls ++ f (innermost ls) ∷ []
+at-innermost f [] h = absurd (omega arith)
+at-innermost f (l ∷ []) h = refl
+at-innermost f (l ∷ (m ∷ ls)) h = ap (λ r. l ∷ r) (at-innermost f (m ∷ ls) (omega arith))
+
+pub innermost-stays : (ls : List Level) → at_innermost (λ l. l) ls ≡ ls
+innermost-stays [] = refl
+innermost-stays (l ∷ []) = refl
+innermost-stays (l ∷ (m ∷ ls)) = ap (λ r. l ∷ r) (innermost-stays (m ∷ ls))
+
+-- the last of so many scopes, read or written in place
+pub read-last : (ls : List Level) (count : ℕ) (was : Level) → count ≡ length ls → 0 < length ls → was ≡ get_or ls (count - 1) was → was ≡ innermost ls
+read-last ls count was counted some at = at ∙ ap (λ n. get_or ls (n - 1) was) counted ∙ sym (innermost-last ls was some)
+
+pub written-last : (f : Level → Level) (ls : List Level) (count : ℕ) (was new : Level) → count ≡ length ls → 0 < length ls → was ≡ get_or ls (count - 1) was
+    → new ≡ f was → slice_set ls (count - 1) new ≡ at_innermost f ls
+written-last f ls count was new counted some at made =
+    ap (λ n. slice_set ls (n - 1) new) counted
+    ∙ changed-last f ls new was some (made ∙ ap f (at ∙ ap (λ n. get_or ls (n - 1) was) counted))
+
+pub kept-last : (ls : List Level) (count : ℕ) (was new : Level) → count ≡ length ls → 0 < length ls → was ≡ get_or ls (count - 1) was
+    → new ≡ was → slice_set ls (count - 1) new ≡ ls
+kept-last ls count was new counted some at same = written-last (λ l. l) ls count was new counted some at same ∙ innermost-stays ls
+
+-- The stacks of names, or of tags, as scopes are entered, left and changed
+
+module _ {A : Type 0} (part : Level → List (Name × A)) where
+  parts_pushed : (ls : List Level) (l : Level) → map part (ls ++ l ∷ []) ≡ map part ls ++ part l ∷ []
+  parts_pushed ls l = map-append part ls (l ∷ [])
+
+  pub stacks-entered : part empty_level ≡ [] → (ls changed : List Level) (stacks : List (Name × List A)) → changed ≡ ls ++ empty_level ∷ []
+      → AreStacksOf (map part ls) stacks → AreStacksOf (map part changed) stacks
+  stacks-entered empty ls changed stacks made are n =
+      are n
+      ∙ sym (ap (λ r. entries_of r n) (ap (map part) made ∙ parts_pushed ls empty_level)
+      ∙ entries-pushed (map part ls) (part empty_level) n
+      ∙ ap (λ es. entries_of (map part ls) n ++ option_to_list (entry_of es n)) empty
+      ∙ append-nil (entries_of (map part ls) n))
+
+  pub stacks-left : (ls rest : List Level) (l : Level) (old new : List (Name × List A)) → ls ≡ rest ++ l ∷ []
+      → AreStacksOf (map part ls) old → LosesList (part l) old new → AreStacksOf (map part rest) new
+  stacks-left ls rest l old new whole are loses =
+      loses (map part rest) (λ n. are n ∙ ap (λ r. entries_of r n) (ap (map part) whole ∙ parts_pushed rest l))
+
+  pub stacks-gone_on : (ls changed : List Level) (l : Level) (old new : List (Name × List A)) → changed ≡ ls ++ l ∷ []
+      → AreStacksOf (map part ls) old → GetsList (part l) old new → AreStacksOf (map part changed) new
+  stacks-gone_on ls changed l old new made are gets n =
+      gets (map part ls) are n ∙ ap (λ r. entries_of r n) (sym (ap (map part) made ∙ parts_pushed ls l))
+
+  -- the innermost scope is changed, with the stacks
+  stacks_at : (f : Level → Level) (ls changed : List Level) (old new : List (Name × List A)) → 0 < length ls → changed ≡ at_innermost f ls
+      → ((outer : List (List (Name × A))) → AreStacksOf (outer ++ part (innermost ls) ∷ []) old → AreStacksOf (outer ++ part (f (innermost ls)) ∷ []) new)
+      → AreStacksOf (map part ls) old → AreStacksOf (map part changed) new
+  stacks_at f ls changed old new some made step are n =
+      step (map part (without_innermost ls))
+      (λ m. are m ∙ ap (λ r. entries_of r m) (ap (map part) (sym (innermost-stays ls) ∙ at-innermost (λ l. l) ls some)
+      ∙ parts_pushed (without_innermost ls) (innermost ls))) n
+      ∙ ap (λ r. entries_of r n) (sym (ap (map part) (made ∙ at-innermost f ls some) ∙ parts_pushed (without_innermost ls) (f (innermost ls))))
+
+  -- a part of it that stays
+  pub stacks-kept : (f : Level → Level) (ls changed : List Level) (stacks : List (Name × List A)) → 0 < length ls → changed ≡ at_innermost f ls
+      → part (f (innermost ls)) ≡ part (innermost ls) → AreStacksOf (map part ls) stacks → AreStacksOf (map part changed) stacks
+  stacks-kept f ls changed stacks some made stays =
+      stacks_at f ls changed stacks stacks some made (λ outer are n. are n ∙ ap (λ es. entries_of (outer ++ es ∷ []) n) (sym stays))
+
+  -- a part to which a name is added, and one where a name is set
+  pub stacks-added : (f : Level → Level) (name : Name) (what : A) (ls changed : List Level) (old new : List (Name × List A)) → 0 < length ls
+      → changed ≡ at_innermost f ls → part (f (innermost ls)) ≡ with_entry name what (part (innermost ls)) → entry_of (part (innermost ls)) name ≡ None
+      → ChangesStack name (λ stack. stack ++ what ∷ []) old new → AreStacksOf (map part ls) old → AreStacksOf (map part changed) new
+  stacks-added f name what ls changed old new some made adds none changes =
+      stacks_at f ls changed old new some made
+      (λ outer are n. last-pushed name what outer (part (innermost ls)) old new none changes are n ∙ ap (λ es. entries_of (outer ++ es ∷ []) n) (sym adds))
+
+  pub stacks-set : (f : Level → Level) (name : Name) (what was : A) (ls changed : List Level) (old new : List (Name × List A)) → 0 < length ls
+      → changed ≡ at_innermost f ls → part (f (innermost ls)) ≡ with_entry name what (part (innermost ls)) → entry_of (part (innermost ls)) name ≡ Some was
+      → ChangesStack name (with_top what) old new → AreStacksOf (map part ls) old → AreStacksOf (map part changed) new
+  stacks-set f name what was ls changed old new some made sets known changes =
+      stacks_at f ls changed old new some made
+      (λ outer are n. last-set name what was outer (part (innermost ls)) old new known changes are n ∙ ap (λ es. entries_of (outer ++ es ∷ []) n) (sym sets))
+
+-- what was put on a stack and taken away again
+pub stacks-back : {A : Type 0} (name : Name) (what : A) (old put new : List (Name × List A)) → ChangesStack name (λ stack. stack ++ what ∷ []) old put
+    → ChangesStack name without_top put new → HaveSameStacks old new
+stacks-back name what old put new pushes pops n = pops n ∙ ap (λ s. if bytes_eq n name then without_top s else s) (pushes n) ∙ by (bytes_eq n name)
+  where
+    by : (b : Bool) → (if b then without_top (if b then stack_of old n ++ what ∷ [] else stack_of old n) else
+        (if b then stack_of old n ++ what ∷ [] else stack_of old n)) ≡ stack_of old n
+    by true = without-pushed (stack_of old n) what
+    by false = refl
+
+-- The file's scope and those inside it
 
 abbrev pub seen_of : Level → List Level → List Name → List (List Name) → ℕ → ℕ → ℕ → Seen
 seen_of file inner defined members node globals cells = record {
@@ -66,69 +174,57 @@ seen_of file inner defined members node globals cells = record {
   cells = cells;
 }
 
--- the scopes without the last
-pub left : (file : Level) (inner changed : List Level) (defined : List Name) (members : List (List Name)) (node globals cells : ℕ) (now : Seen)
-    → seen_of file inner defined members node globals cells ≡ now → changed ≡ take (length inner - 1) inner → 1 < length now.scopes.levels
-    → seen_of file changed defined members node globals cells ≡ with_scopes now (leaving now.scopes)
-left file inner changed defined members node globals cells now seen made =
-    let P : Seen → Type 0 = λ t. 1 < length t.scopes.levels
-    → seen_of file changed defined members node globals cells ≡ with_scopes t (leaving t.scopes) in
-    subst P seen (λ more. ap (λ ls. with_scopes (seen_of file inner defined members node globals cells) (record { levels = ls; defined = defined; members = members }))
-    (ap (λ ls. file ∷ ls) made ∙ sym (without-last file inner (omega arith))))
+-- the scopes inside the file's, changed
+pub inner-changed : (g : List Level → List Level) (file : Level) (inner changed : List Level) (defined : List Name) (members : List (List Name))
+    (node globals cells : ℕ) (now : Seen)
+    → seen_of file inner defined members node globals cells ≡ now → g (file ∷ inner) ≡ file ∷ changed
+    → seen_of file changed defined members node globals cells ≡ with_scopes now (record now.scopes { levels = g now.scopes.levels })
+inner-changed g file inner changed defined members node globals cells now seen made =
+    let P : Seen → Type 0 = λ t. seen_of file changed defined members node globals cells ≡ with_scopes t (record t.scopes { levels = g t.scopes.levels }) in
+    subst P seen (ap (λ ls. with_scopes (seen_of file inner defined members node globals cells)
+    (record { levels = ls; defined = defined; members = members })) (sym made))
 
--- the last of the scopes, which is not the file's
-pub innermost-popped : (file : Level) (inner : List Level) (defined : List Name) (members : List (List Name)) (node globals cells : ℕ) (now : Seen)
-    → seen_of file inner defined members node globals cells ≡ now → 1 < length now.scopes.levels
-    → (0 < length inner) × (get_or inner (length inner - 1) file ≡ innermost now.scopes.levels)
-innermost-popped file inner defined members node globals cells now seen =
-    let P : Seen → Type 0 = λ t. 1 < length t.scopes.levels → (0 < length inner) × (get_or inner (length inner - 1) file ≡ innermost t.scopes.levels) in
-    subst P seen (λ more. let some : 0 < length inner = omega arith in (some, sym (innermost-last file inner file some)))
+pub some-inner : (file : Level) (inner : List Level) (defined : List Name) (members : List (List Name)) (node globals cells : ℕ) (now : Seen)
+    → seen_of file inner defined members node globals cells ≡ now → 1 < length now.scopes.levels → 0 < length inner
+some-inner file inner defined members node globals cells now seen more =
+    let h : 1 < length (file ∷ inner) = subst (λ t. 1 < length t.scopes.levels) (sym seen) more in
+    omega arith
 
--- the declaration of a name in the last of the scopes
-pub here-last : (file : Level) (inner : List Level) (defined : List Name) (members : List (List Name)) (node globals cells : ℕ) (now : Seen) (name : Name) (m : Level)
-    → seen_of file inner defined members node globals cells ≡ now → 0 < length inner → m ≡ get_or inner (length inner - 1) m
-    → here now.scopes.levels name ≡ None → entry_of m.names name ≡ None
-here-last file inner defined members node globals cells now name m seen some last none =
-    ap (λ l. entry_of l.names name) (last ∙ sym (innermost-last file inner m some))
-    ∙ ap (λ t. here t.scopes.levels name) seen ∙ none
+pub at-inner : (f : Level → Level) (file : Level) (inner : List Level) → 0 < length inner → at_innermost f (file ∷ inner) ≡ file ∷ at_innermost f inner
+at-inner f file [] h = absurd (omega arith)
+at-inner f file (l ∷ ls) h = refl
 
--- the last of the scopes, changed
-pub at-last : (f : Level → Level) (l : Level) (ls : List Level) (m d : Level) → 0 < length ls → m ≡ f (get_or ls (length ls - 1) d)
-    → at_innermost f (l ∷ ls) ≡ l ∷ slice_set ls (length ls - 1) m
-at-last f l [] m d h e = absurd (omega arith)
-at-last f l (k ∷ []) m d h e = ap (λ x. l ∷ (x ∷ [])) (sym e)
-at-last f l (k ∷ (j ∷ ls)) m d h e =
-    let g : length ls ≡ length (j ∷ ls) - 1 = omega arith in
-    let i : suc (length ls) ≡ length (k ∷ (j ∷ ls)) - 1 = omega arith in
-    ap (λ r. l ∷ r) (at-last f k (j ∷ ls) m d (omega arith)
-    (e ∙ ap (λ n. f (get_or (k ∷ (j ∷ ls)) n d)) (sym i) ∙ ap (λ n. f (get_or (j ∷ ls) n d)) g)
-    ∙ ap (λ n. k ∷ slice_set (j ∷ ls) n m) (sym g)
-    ∙ ap (λ n. slice_set (k ∷ (j ∷ ls)) n m) i)
+pub without-inner : (file : Level) (inner : List Level) → 0 < length inner → without_innermost (file ∷ inner) ≡ file ∷ without_innermost inner
+without-inner file [] h = absurd (omega arith)
+without-inner file (l ∷ ls) h = refl
 
-pub changed-last : (f : Level → Level) (file : Level) (inner : List Level) (defined : List Name) (members : List (List Name)) (node globals cells : ℕ) (now : Seen) (m n : Level)
-    → seen_of file inner defined members node globals cells ≡ now → 0 < length inner → m ≡ get_or inner (length inner - 1) m → n ≡ f m
-    → seen_of file (slice_set inner (length inner - 1) n) defined members node globals cells
-    ≡ with_scopes now (record now.scopes { levels = at_innermost f now.scopes.levels })
-changed-last f file inner defined members node globals cells now m n seen some last new =
-    let P : Seen → Type 0 = λ t. seen_of file (slice_set inner (length inner - 1) n) defined members node globals cells
-    ≡ with_scopes t (record t.scopes { levels = at_innermost f t.scopes.levels }) in
-    subst P seen (ap (λ ls. with_scopes (seen_of file inner defined members node globals cells) (record { levels = ls; defined = defined; members = members }))
-    (sym (at-last f file inner n m some (new ∙ ap f last))))
+pub innermost-inner : (file : Level) (inner : List Level) → 0 < length inner → innermost (file ∷ inner) ≡ innermost inner
+innermost-inner file [] h = absurd (omega arith)
+innermost-inner file (l ∷ ls) h = refl
+
+-- What is on top
 
 or-none : {A : Type 0} (o : Option A) → o ≡ or_outer o None
 or-none None = refl
 or-none (Some x) = refl
 
-or-assoc : {A : Type 0} (a b c : Option A) → or_outer (or_outer a b) c ≡ or_outer a (or_outer b c)
-or-assoc None b c = refl
-or-assoc (Some x) b c = refl
+-- the innermost that there is
+top_behind : {A : Type 0} (o : Option A) (xs : List A) → top_of (option_to_list o ++ xs) ≡ or_outer (top_of xs) o
+top_behind None xs = or-none (top_of xs)
+top_behind (Some x) [] = top-some x []
+top_behind (Some x) (y ∷ ys) = top-later x y ys ∙ sym (ap (λ o. or_outer o (Some x)) (top-some y ys))
 
--- a name in scopes of which one is the last
-pub name_in-push : (ls : List Level) (l : Level) (name : Name) → name_in (ls ++ l ∷ []) name ≡ or_outer (entry_of l.names name) (name_in ls name)
-name_in-push [] l name = or-none (entry_of l.names name)
-name_in-push (k ∷ ls) l name =
-    ap (λ o. or_outer o (entry_of k.names name)) (name_in-push ls l name)
-    ∙ or-assoc (entry_of l.names name) (name_in ls name) (entry_of k.names name)
+pub name-on-top : (ls : List Level) (name : Name) → top_of (entries_of (map (λ l. l.names) ls) name) ≡ name_in ls name
+name-on-top [] name = refl
+name-on-top (l ∷ ls) name =
+    top_behind (entry_of l.names name) (entries_of (map (λ k. k.names) ls) name)
+    ∙ ap (λ o. or_outer o (entry_of l.names name)) (name-on-top ls name)
+
+pub tag-on-top : (ls : List Level) (name : Name) → top_of (entries_of (map (λ l. l.tags) ls) name) ≡ tag_in ls name
+tag-on-top [] name = refl
+tag-on-top (l ∷ ls) name =
+    top_behind (entry_of l.tags name) (entries_of (map (λ k. k.tags) ls) name)
+    ∙ ap (λ o. or_outer o (entry_of l.tags name)) (tag-on-top ls name)
 
 -- what holds where a call answered Ok
 pub on_ok : {T E : Type 0} (P Q : Type 0) (r : Result T E) → (P → Q) → OnOk r P → OnOk r Q
@@ -138,16 +234,11 @@ on_ok P Q (Err e) f p = p
 -- Tags
 
 -- a tag that the innermost scope does not have is declared there where it is set
-pub tag_set-new : (name : Name) (what : Tag) (ls : List Level) → tag_here ls name ≡ None → at_innermost (with_tag_set name what) ls ≡ at_innermost (with_tag name what) ls
+pub tag_set-new : (name : Name) (what : Tag) (ls : List Level) → tag_here ls name ≡ None
+    → at_innermost (with_tag_set name what) ls ≡ at_innermost (with_tag name what) ls
 tag_set-new name what [] h = refl
 tag_set-new name what (l ∷ []) h = ap (λ ts. level l.names ts ∷ []) (entry-last name what l.tags h)
 tag_set-new name what (l ∷ (m ∷ ls)) h = ap (λ r. l ∷ r) (tag_set-new name what (m ∷ ls) h)
-
-pub tag_in-push : (ls : List Level) (l : Level) (name : Name) → tag_in (ls ++ l ∷ []) name ≡ or_outer (entry_of l.tags name) (tag_in ls name)
-tag_in-push [] l name = or-none (entry_of l.tags name)
-tag_in-push (k ∷ ls) l name =
-    ap (λ o. or_outer o (entry_of k.tags name)) (tag_in-push ls l name)
-    ∙ or-assoc (entry_of l.tags name) (tag_in ls name) (entry_of k.tags name)
 
 -- the place of a name among the keys of a set
 
@@ -207,4 +298,5 @@ pub names-pushed : {K : Type 0} (bytes : K → Name) (eq : K → K → Bool) →
     → map bytes ks ≡ l → bytes k ≡ name → changed ≡ insert_key eq ks k → place_among l name ≡ None → map bytes changed ≡ l ++ name ∷ []
 names-pushed bytes eq same ks changed k name l seen named made fresh =
     names-added bytes eq same ks changed k name l seen named made
-    ∙ ap (λ b. cond b l (l ++ name ∷ [])) (missed (bytes_eq name) l (no_some (nat_lt (position_or_len (bytes_eq name) l) (length l)) (position_or_len (bytes_eq name) l) fresh))
+    ∙ ap (λ b. cond b l (l ++ name ∷ [])) (missed (bytes_eq name) l (no_some (nat_lt (position_or_len (bytes_eq name) l) (length l))
+    (position_or_len (bytes_eq name) l) fresh))

@@ -25,14 +25,14 @@ use Rattle.c_typing.specs.declared.declared.Declared.TheVariants as declared
 use Rattle.c_typing.specs.declared.naming.Naming.{Naming}
 use Rattle.c_typing.specs.declared.naming.Naming.TheVariants as naming
 pub use Rattle.c_typing.specs.Adjusting.{Derived, NotDerived, ByStar, ByArray, ByFunction, by_stars, by_parts, derived_by, derived_by_core, derived_by_declared, typedef_place, adjusted_at}
-use Rattle.c_typing.specs.Scopes.{Name, declaring, entering, leaving}
+use Rattle.c_typing.specs.Scopes.{Name, declaring, entering, leaving, with_scopes}
 use Rattle.c_typing.specs.Constants.{constant_value}
 use Rattle.c_typing.specs.Shapes.{is_function_shape}
 use Rattle.c_typing.specs.Declarators.{Outermost, Written, Counts, Points, nearest, outside, taken_types, is_derived_declared}
 use Rattle.c_typing.specs.Tests as tests
 use Rattle.c_typing.specs.Tests.{AsValue}
 use Rattle.c_typing.specs.Refusals.{has_name, is_here, declared_identifier}
-use Rattle.c_typing.specs.Judging.{Judging, Stops, pure, stop, by_known, ◌>>=◌, new_node, type_with, pointer_type}
+use Rattle.c_typing.specs.Judging.{State, Outcome, Judging, Gives, Stops, pure, stop, by_known, ◌>>=◌, new_node, type_with, pointer_type}
 use Rattle.c_typing.specs.Operands.{Value}
 use Rattle.c_typing.specs.Specifying.{obeying, in_scopes}
 
@@ -241,3 +241,15 @@ entered = in_scopes entering true
 -- the file's scope is never left
 unfoldable pub left : {A : Type 0} → Place → A → Judging A
 left at a = λ s. if nat_lt 1 (length s.seen.scopes.levels) then in_scopes leaving a s else Stops (TooLarge at Types) s
+
+-- what is known once the innermost scope is left, unless it is the file's
+abbrev pub once_left : State → State
+once_left s = if nat_lt 1 (length s.seen.scopes.levels) then record s { seen = with_scopes s.seen (leaving s.seen.scopes) } else s
+
+-- a stop in a scope of its own leaves that scope
+abbrev pub stopped_outside : {A : Type 0} → Outcome A → Outcome A
+stopped_outside (Gives a s) = Gives a s
+stopped_outside (Stops fault s) = Stops fault (once_left s)
+
+abbrev pub stopping_outside : {A : Type 0} → Judging A → Judging A
+stopping_outside p = λ s. stopped_outside (p s)

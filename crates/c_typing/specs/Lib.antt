@@ -23,3 +23,4 @@ pub mod Declaring
 pub mod Walks
 pub mod Cells
 pub mod Checking
+pub mod Growing

@@ -184,7 +184,7 @@ unfoldable mutual
   judge_parts at (tree.AndFunction all paren parameters) = do
     parts ← judge_parts at all
     in_prototype ← declaring.entered
-    list ← judge_parameters (is_void_alone parameters) parameters
+    list ← declaring.stopping_outside (judge_parameters (is_void_alone parameters) parameters)
     whole ← declaring.left at list
     pure (typed.AndFunction parts paren whole)
 
@@ -207,7 +207,7 @@ unfoldable mutual
 unfoldable pub judge_prototype : Place → tree.Parameters → Judging TypedParameters
 judge_prototype at parameters = do
   in_prototype ← declaring.entered
-  list ← judge_parameters (is_void_alone parameters) parameters
+  list ← declaring.stopping_outside (judge_parameters (is_void_alone parameters) parameters)
   declaring.left at list
 
 -- Specifiers that no declarator follows (C99 6.7.2.3)

@@ -2,11 +2,13 @@
 #![tactic(auto)]
 
 ghost use Rattle.std.specs.Prelude.{◌≡◌, OnOk, OnErr, None, option_copied};
+ghost use Rattle.named_lists.specs.Stacks.{GetsList, KeepsLists, LosesList};
 ghost use Rattle.c_typing.specs.Scopes.{entry_of, with_name, with_tag_set, empty_level};
 
 use crate::declared::{Declared, Tag};
 use cc_base::NoMemory;
 use indexmap::IndexMap;
+use named_lists::NameStacks;
 use std::alloc::Global;
 use std::marker::Model;
 
@@ -75,5 +77,36 @@ impl Level {
         let key = Vec::from_slice(alloc, name)?;
         self.tags.insert(key, what)?;
         Ok(())
+    }
+
+    /// Puts what its names and tags stand for on top of their stacks.
+    pub(crate) fn show(
+        &self,
+        alloc: Global,
+        names: &mut NameStacks<Declared>,
+        tags: &mut NameStacks<Tag>,
+    ) -> Result<(), NoMemory>
+        ensures names { OnOk result (GetsList self.now.names names.old names.new) }
+        ensures tags { OnOk result (GetsList self.now.tags tags.old tags.new) }
+        ensures same_names { OnErr result (KeepsLists names.old names.new) }
+        ensures same_tags { OnErr result (KeepsLists tags.old tags.new) }
+    {
+        tags.push_all(alloc, &self.tags)?;
+        match names.push_all(alloc, &self.names) {
+            Ok(()) => Ok(()),
+            Err(_e) => {
+                tags.pop_all(&self.tags);
+                Err(NoMemory)
+            }
+        }
+    }
+
+    /// Takes what its names and tags stand for from the top of their stacks. Takes no memory.
+    pub(crate) fn hide(&self, names: &mut NameStacks<Declared>, tags: &mut NameStacks<Tag>)
+        ensures names { LosesList self.now.names names.old names.new }
+        ensures tags { LosesList self.now.tags tags.old tags.new }
+    {
+        names.pop_all(&self.names);
+        tags.pop_all(&self.tags);
     }
 }

@@ -6,6 +6,7 @@ pub mod constant;
 pub mod construct;
 pub mod copies;
 pub mod declared;
+pub mod inner_scopes;
 pub mod kind;
 pub mod level;
 pub mod member;

@@ -7,6 +7,7 @@ ghost use Rattle.c_typing.specs.Scopes.{file_scope, with_scopes, entering, inner
 ghost use Rattle.c_typing.specs.Typing.{counting_aggregate};
 
 use crate::declared::{Declared, Tag};
+use crate::inner_scopes::InnerScopes;
 use crate::level::Level;
 use crate::member::MemberNames;
 use cc_base::{NoMemory, NodeId};
@@ -25,7 +26,7 @@ const MOST_CELLS: u64 = 65_536;
 pub struct Scope {
     alloc: Global,
     file: Level,
-    inner: Vec<Level>,
+    inner: InnerScopes,
     defined: IndexSet<Vec<u8>>,
     members: Vec<MemberNames>,
     next_node: u32,
@@ -39,7 +40,7 @@ impl Model for Scope {
 
     ghost Value = { Seen };
 
-    ghost view = { λ s. record { scopes = record { levels = s.file ∷ s.inner.items; defined = map (λ k. k.items) s.defined.keys; members = s.members.items }; node = s.next_node; globals = s.globals; cells = s.cells } };
+    ghost view = { λ s. record { scopes = record { levels = s.file ∷ s.inner; defined = map (λ k. k.items) s.defined.keys; members = s.members.items }; node = s.next_node; globals = s.globals; cells = s.cells } };
 
     ghost invariant = { λ s. s.globals ≤ 4194304 };
 }
@@ -52,7 +53,7 @@ impl Scope {
         Scope {
             alloc,
             file: Level::new(alloc),
-            inner: Vec::new(alloc),
+            inner: InnerScopes::new(alloc),
             defined,
             members: Vec::new(alloc),
             next_node: 0,
@@ -66,8 +67,7 @@ impl Scope {
         ensures entered { OnOk result (self.new ≡ with_scopes self.old (entering self.old.scopes)) }
         ensures unchanged { OnErr result (self.new ≡ self.old) }
     {
-        self.inner.push(Level::new(self.alloc))?;
-        Ok(())
+        self.inner.enter(self.alloc)
     }
 
     /// Takes the innermost scope away. Takes no memory.
@@ -75,8 +75,7 @@ impl Scope {
         requires { 1 < length self.old.scopes.levels }
         ensures { self.new ≡ with_scopes self.old (leaving self.old.scopes) }
     {
-        let last = self.inner.len() - 1;
-        self.inner.truncate(last);
+        self.inner.leave();
     }
 
     /// Takes the innermost scope away and gives it, where it isn't the file's. Takes no memory.
@@ -85,7 +84,7 @@ impl Scope {
         ensures left { self.new ≡ with_scopes self.old (leaving self.old.scopes) }
         ensures level { result ≡ Some (innermost self.old.scopes.levels) }
     {
-        self.inner.pop()
+        self.inner.leave()
     }
 
     /// A scope that was taken away goes on as the innermost one.
@@ -94,13 +93,13 @@ impl Scope {
             (record self.old.scopes { levels = self.old.scopes.levels ++ level ∷ [] })) }
         ensures unchanged { OnErr result (self.new ≡ self.old) }
     {
-        self.inner.push(level)?;
-        Ok(())
+        self.inner.go_on(self.alloc, level)
     }
 
     /// How many scopes are open, the file's among them. Takes no memory.
     pub fn depth(&self) -> usize
-        ensures { result ≡ length self.now.scopes.levels }
+        ensures count { result ≡ length self.now.scopes.levels }
+        ensures some { 0 < length self.now.scopes.levels }
     {
         self.inner.len() + 1
     }
@@ -122,39 +121,30 @@ impl Scope {
             (declaring name.now what self.old.scopes)) }
         ensures unchanged { OnErr result (self.new ≡ self.old) }
     {
-        let count = self.inner.len();
-        if count == 0 {
+        if self.inner.len() == 0 {
             return self.file.declare(self.alloc, name, what);
         }
-        self.inner[count - 1].declare(self.alloc, name, what)
+        self.inner.declare(self.alloc, name, what)
     }
 
     /// What a name stands for: its declaration in the innermost scope that has one. Takes no memory.
     pub fn name(&self, name: &[u8]) -> Option<&Declared>
         ensures { option_copied result ≡ name_in self.now.scopes.levels name.now }
     {
-        let mut rest: &[Level] = &self.inner;
-        'outwards: while let Some((level, outer)) = rest.split_last() {
-            match level.name(name) {
-                Some(what) => return Some(what),
-                None => rest = outer,
-            }
+        match self.inner.name(name) {
+            Some(what) => Some(what),
+            None => self.file.name(name),
         }
-        self.file.name(name)
     }
 
     /// What a tag stands for: its declaration in the innermost scope that has one. Takes no memory.
     pub fn tag(&self, name: &[u8]) -> Option<&Tag>
         ensures { option_copied result ≡ tag_in self.now.scopes.levels name.now }
     {
-        let mut rest: &[Level] = &self.inner;
-        'outwards: while let Some((level, outer)) = rest.split_last() {
-            match level.tag(name) {
-                Some(what) => return Some(what),
-                None => rest = outer,
-            }
+        match self.inner.tag(name) {
+            Some(what) => Some(what),
+            None => self.file.tag(name),
         }
-        self.file.tag(name)
     }
 
     /// The innermost scope's declaration of a tag. Takes no memory.
@@ -183,11 +173,10 @@ impl Scope {
             (setting_tag name.now what self.old.scopes)) }
         ensures unchanged { OnErr result (self.new ≡ self.old) }
     {
-        let count = self.inner.len();
-        if count == 0 {
+        if self.inner.len() == 0 {
             return self.file.set_tag(self.alloc, name, what);
         }
-        self.inner[count - 1].set_tag(self.alloc, name, what)
+        self.inner.set_tag(self.alloc, name, what)
     }
 
     /// Where a function stands among those that the unit defines, counted from 0. Takes no memory.

@@ -6,6 +6,7 @@ ghost use Rattle.c_types.specs.Table.{shape_at};
 ghost use Rattle.c_tree.specs.TypedParts.{place_type};
 ghost use Rattle.c_types.specs.Calls.{IsAddable};
 ghost use Rattle.c_tree.specs.TypedViews.{typed_expr_view, typed_place_view};
+ghost use Rattle.c_typing.specs.Growing.{Grows};
 ghost use Rattle.c_typing.specs.Judging.{Answers, known};
 ghost use Rattle.c_typing.specs.Judging as judging;
 ghost use Rattle.c_typing.specs.Operands as operands;
@@ -27,8 +28,9 @@ pub fn type_with(
     shape: TypeShape,
 ) -> Result<TypeId, Fault>
     requires { IsAddable types.old shape }
-    ensures { Answers (λ t. t) (judging.type_with at shape (known types.old scope.now)) result
-        (known types.new scope.now) }
+    ensures answers { Answers (λ t. t) (judging.type_with at shape (known types.old scope.now))
+        result (known types.new scope.now) }
+    ensures grows { Grows (known types.old scope.now) (known types.new scope.now) }
 {
     match types.add(shape) {
         Ok(t) => Ok(t),
@@ -46,8 +48,9 @@ pub fn pointer_type(
     node: NodeId,
     to: TypeId,
 ) -> Result<TypeId, Fault>
-    ensures { Answers (λ t. t) (judging.pointer_type at node to (known types.old scope.now)) result
-        (known types.new scope.now) }
+    ensures answers { Answers (λ t. t) (judging.pointer_type at node to (known types.old scope.now))
+        result (known types.new scope.now) }
+    ensures grows { Grows (known types.old scope.now) (known types.new scope.now) }
 {
     if to.0 >= types.count() {
         return Err(no_room(at));
@@ -63,8 +66,9 @@ pub fn new_pointer(
     at: Place,
     to: TypeId,
 ) -> Result<Pointing, Fault>
-    ensures { Answers pointing_view (judging.new_pointer at to (known types.old scope.old)) result
-        (known types.new scope.new) }
+    ensures answers { Answers pointing_view (judging.new_pointer at to (known types.old scope.old))
+        result (known types.new scope.new) }
+    ensures grows { Grows (known types.old scope.old) (known types.new scope.new) }
 {
     let Some(node) = scope.new_node() else {
         return Err(no_room(at));
@@ -124,9 +128,10 @@ fn place_value(
     at: Place,
     p: Boxed<TypedPlace>,
 ) -> Result<Boxed<TypedExpr>, Fault>
-    ensures { Answers typed_expr_view (operands.place_value at (typed_place_view p)
+    ensures answers { Answers typed_expr_view (operands.place_value at (typed_place_view p)
         (operands.reading_of (shape_at types.old (place_type (typed_place_view p))))
         (known types.old scope.old)) result (known types.new scope.new) }
+    ensures grows { Grows (known types.old scope.old) (known types.new scope.new) }
 {
     let alloc = scope.alloc();
     match reading_at(types, p.get().ty()) {
@@ -149,8 +154,9 @@ pub fn raw_value(
     at: Place,
     e: Boxed<TypedExpr>,
 ) -> Result<Boxed<TypedExpr>, Fault>
-    ensures { Answers typed_expr_view (operands.raw_value at (typed_expr_view e)
+    ensures answers { Answers typed_expr_view (operands.raw_value at (typed_expr_view e)
         (known types.old scope.old)) result (known types.new scope.new) }
+    ensures grows { Grows (known types.old scope.old) (known types.new scope.new) }
 {
     let made = new_pointer(scope, types, at, TypeId(0))?;
     Ok(made_raw(scope, made, e)?)
@@ -164,8 +170,9 @@ pub fn value_of(
     at: Place,
     part: Part,
 ) -> Result<Boxed<TypedExpr>, Fault>
-    ensures { Answers typed_expr_view (operands.value_of at (part_view part)
+    ensures answers { Answers typed_expr_view (operands.value_of at (part_view part)
         (known types.old scope.old)) result (known types.new scope.new) }
+    ensures grows { Grows (known types.old scope.old) (known types.new scope.new) }
 {
     match part {
         Part::Place(p) => place_value(scope, types, at, p),
@@ -177,8 +184,9 @@ pub fn value_of(
 /// The value of an operand (C99 6.3.2.1).
 #[tactic(auto, unfolding(crate::specs::Operands::value))]
 pub fn value(scope: &mut Scope, types: &mut Types, x: Operand) -> Result<Value, Fault>
-    ensures { Answers value_view (operands.value (operand_view x) (known types.old scope.old))
-        result (known types.new scope.new) }
+    ensures answers { Answers value_view (operands.value (operand_view x)
+        (known types.old scope.old)) result (known types.new scope.new) }
+    ensures grows { Grows (known types.old scope.old) (known types.new scope.new) }
 {
     let Operand { part, place, held } = x;
     let expr = value_of(scope, types, place, part)?;

@@ -14,7 +14,7 @@ use Rattle.c_typing.specs.declared.declared.Declared.TheVariants as declared
 use Rattle.c_typing.specs.declared.declared.Tag.{Tag}
 use Rattle.c_typing.specs.Constants.{constant_value}
 use Rattle.c_typing.specs.Declarators.{Counted, counting, are_allowed}
-use Rattle.c_typing.specs.Judging.{State, Gives, next, ◌>>=◌, pure, by_known}
+use Rattle.c_typing.specs.Judging.{State, Gives, next, ◌>>=◌, by_known}
 use Rattle.c_typing.specs.Operands.{Value, value}
 use Rattle.c_typing.specs.Refusals.{one_named, tag_place}
 use Rattle.c_typing.specs.Scopes.{Name, Scopes, here as named_here, declaring, place_among, with_name, with_scopes}
@@ -41,13 +41,14 @@ use Rattle.c_typing_given.specs.Spending.{HasRoom}
 use Rattle.c_type_order.specs.TypesUsed.{AreUses, used_by, used_by_enumerators, used_by_specifier}
 use Rattle.c_typing_given.proofs.CallsGiven.{reached-none}
 use Rattle.c_typing_given.proofs.Constructing.{reached-both, uses-at, plain-given, max-left, max-right}
-use Rattle.c_typing_given.proofs.LevelsKept.{length-innermost, enumerating-levels, enumerated-levels}
+use Rattle.c_typing_given.proofs.LevelsKept.{enumerating-levels, enumerated-levels}
 use Rattle.c_typing_given.proofs.Settling.{small-kept}
 use Rattle.c_typing_given.proofs.TypeGiven.{none-same}
 use Rattle.c_typing_given.proofs.SpecifiersGiven.{IsSpecifierGiven}
 use Rattle.c_typing_given.proofs.Spent.{room-first, room-then}
 use Rattle.c_typing_given.proofs.Steps.{then-is, obeying-is}
 use Rattle.c_typing_given.proofs.ValuesGiven.{uses-first}
+use Rattle.c_typing.proofs.OpenScopes.{length-innermost}
 
 abbrev pub in_state : Scopes → State → State
 in_state c s = record s { seen = with_scopes s.seen c }

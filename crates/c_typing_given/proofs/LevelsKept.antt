@@ -1,5 +1,5 @@
 -- Typed parts keep the number of open scopes: what they declare is declared in the innermost one, and the scope of a prototype is left.
-use Rattle.std.proofs.Common.{◌≡◌, ℕ, ℤ, ◌+◌, suc, Bool, List, [], ◌∷◌, length, Option, Some, None, refl, ap, ◌∙◌, arith}
+use Rattle.std.proofs.Common.{◌≡◌, ℕ, ℤ, ◌+◌, Bool, List, [], ◌∷◌, length, Option, Some, None, refl, ap, ◌∙◌, arith}
 use Rattle.std.proofs.lemmas.List.{length-append}
 use Rattle.cc_base.specs.declared.number.TypeId.{TypeId}
 use Rattle.c_types.specs.Table.{Table}
@@ -12,16 +12,12 @@ use Rattle.c_tree.specs.TypedTree.{TypedExpr, TypedPlace, TypedArguments, TypedT
 use Rattle.c_tree.specs.TypedParts.{specified_type, declared_home, is_void_list}
 use Rattle.c_typing.specs.declared.declared.Declared.{Declared}
 use Rattle.c_typing.specs.declared.declared.Tag.{Tag}
-use Rattle.c_typing.specs.Scopes.{Name, Level, Scopes, empty_level, at_innermost, without_innermost, with_name, with_tag, with_tag_set, declaring, entering, leaving, tag_in}
+use Rattle.c_typing.specs.Scopes.{Name, Level, Scopes, empty_level, without_innermost, with_name, with_tag, with_tag_set, declaring, entering, leaving, tag_in}
 use Rattle.c_typing.specs.Typing.{IsTyped, IsPlace, AreTyped, IsTypeName, AreSpecifiers, AreListed, IsSpecifier, AreMembers, AreMemberDeclarators, AreEnumerators, IsForm, IsCore, AreParts, AreParameters, IsDeclared, IsTagged, BeginsAggregate, IsNewName, IsNewEnumerator, tagging, tag_named_here, enumerating, enumerated, counting_aggregate}
 use Rattle.c_typing_unique.proofs.DeclaratorSteps.{DeclaresName, name_declared, declares-by}
+use Rattle.c_typing.proofs.OpenScopes.{length-innermost}
 
 -- Scopes
-
-pub length-innermost : (f : Level → Level) (ls : List Level) → length (at_innermost f ls) ≡ length ls
-length-innermost f [] = refl
-length-innermost f (l ∷ []) = refl
-length-innermost f (l ∷ (m ∷ ls)) = ap suc (length-innermost f (m ∷ ls))
 
 length_left : (n : ℕ) (ls : List Level) → length ls ≡ n + 1 → length (without_innermost ls) ≡ n
 length_left n [] h = absurd (omega (arith, h))

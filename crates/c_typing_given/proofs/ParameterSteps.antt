@@ -17,7 +17,7 @@ use Rattle.c_tree.specs.TypedParts.{declared_home, specified_type}
 use Rattle.c_typing.specs.declared.declared.Declared.TheVariants as declared
 use Rattle.c_typing.specs.declared.naming.Naming.TheVariants as naming
 use Rattle.c_typing.specs.Adjusting.{adjusted_at, derived_by_declared, typedef_place}
-use Rattle.c_typing.specs.Declaring.{adjusted_with_node, adjusted_shape, adjusted_makes, parameter_makes, parameter_declared, parameter}
+use Rattle.c_typing.specs.Declaring.{adjusted_with_node, parameter_makes, parameter_declared, parameter}
 use Rattle.c_typing.specs.Judging.{State, Outcome, Judging, Gives, ◌>>=◌, by_known, pure, new_node}
 use Rattle.c_typing.specs.Refusals.{is_here, declared_identifier}
 use Rattle.c_typing.specs.Scopes.{Scopes, is_complete_at, is_complete_shape_at}

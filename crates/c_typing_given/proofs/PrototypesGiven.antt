@@ -9,7 +9,7 @@ use Rattle.c_tree.specs.TypedTree as typed
 use Rattle.c_tree.specs.TypedTree.{TypedParts, TypedParameters}
 use Rattle.c_tree.specs.TypedParts.{made_by_parts, made_by_parameters, is_void_list}
 use Rattle.c_typing.specs.Declaring
-use Rattle.c_typing.specs.Declaring.{left}
+use Rattle.c_typing.specs.Declaring.{left, stopped_outside, stopping_outside}
 use Rattle.c_typing.specs.Judging.{State, Outcome, Gives, ◌>>=◌, pure}
 use Rattle.c_typing.specs.Refusals.{is_void_alone}
 use Rattle.c_typing.specs.Scopes.{entering, leaving}
@@ -58,10 +58,10 @@ unfolding judge_parts
 judges_function at all paren parameters parts list s k m h g f =
     let o : Outcome TypedParts = Gives (typed.AndFunction parts paren list) (outside m) in
     then-is (judge_parts at all)
-    (λ p. Declaring.entered >>= (λ i. judge_parameters (is_void_alone parameters) parameters >>= (λ l. left at l >>= (λ w. pure (typed.AndFunction p paren w))))) parts s k o h
-    (then-is Declaring.entered (λ i. judge_parameters (is_void_alone parameters) parameters >>= (λ l. left at l >>= (λ w. pure (typed.AndFunction parts paren w)))) true k (inside k) o
+    (λ p. Declaring.entered >>= (λ i. stopping_outside (judge_parameters (is_void_alone parameters) parameters) >>= (λ l. left at l >>= (λ w. pure (typed.AndFunction p paren w))))) parts s k o h
+    (then-is Declaring.entered (λ i. stopping_outside (judge_parameters (is_void_alone parameters) parameters) >>= (λ l. left at l >>= (λ w. pure (typed.AndFunction parts paren w)))) true k (inside k) o
     (enters k)
-    (then-is (judge_parameters (is_void_alone parameters) parameters) (λ l. left at l >>= (λ w. pure (typed.AndFunction parts paren w))) list (inside k) m o g
+    (then-is (stopping_outside (judge_parameters (is_void_alone parameters) parameters)) (λ l. left at l >>= (λ w. pure (typed.AndFunction parts paren w))) list (inside k) m o (ap stopped_outside g)
     (then-is (left at list) (λ w. pure (typed.AndFunction parts paren w)) list m (outside m) o f refl)))
 
 judges_prototype : (at : Place) (parameters : tree.Parameters) (list : TypedParameters) (s m : State)
@@ -70,8 +70,8 @@ judges_prototype : (at : Place) (parameters : tree.Parameters) (list : TypedPara
 unfolding judge_prototype
 judges_prototype at parameters list s m g f =
     let o : Outcome TypedParameters = Gives list (outside m) in
-    then-is Declaring.entered (λ i. judge_parameters (is_void_alone parameters) parameters >>= (λ l. left at l)) true s (inside s) o (enters s)
-    (then-is (judge_parameters (is_void_alone parameters) parameters) (λ l. left at l) list (inside s) m o g f)
+    then-is Declaring.entered (λ i. stopping_outside (judge_parameters (is_void_alone parameters) parameters) >>= (λ l. left at l)) true s (inside s) o (enters s)
+    (then-is (stopping_outside (judge_parameters (is_void_alone parameters) parameters)) (λ l. left at l) list (inside s) m o (ap stopped_outside g) f)
 
 module _ (T : Table) (basic : IsBasic T) (few : (t : TypeId) (parameters : List TypeId) (result : TypeId) → HasShape T t (Function parameters result) → length parameters ≤ 127) where
   -- parameters in a scope of their own, after which it is left

@@ -33,7 +33,7 @@ use Rattle.c_typing.specs.declared.naming.Naming.{Naming}
 use Rattle.c_typing.specs.declared.naming.Naming.TheVariants as naming
 use Rattle.c_typing.specs.Adjusting.{derived_by_declared, typedef_place, adjusted_at}
 use Rattle.c_typing.specs.Declarators.{Counted, Written, counted, declarator_names, member_names}
-use Rattle.c_typing.specs.Declaring.{declarator_name, stars_with_nodes, sized, declared_makes, member_named, parameter, entered, left}
+use Rattle.c_typing.specs.Declaring.{declarator_name, stars_with_nodes, sized, declared_makes, member_named, parameter, entered, left, stopped_outside}
 use Rattle.c_typing.specs.Conversions.{is_plain, is_droppable, is_pointer_to_complete}
 use Rattle.c_typing.specs.Extensions.{IsExtended}
 use Rattle.c_typing.specs.Judging.{State, Gives, next, ◌>>=◌, pure, by_known, new_pointer}
@@ -53,7 +53,7 @@ use Rattle.c_typing_laws.specs.Judged.{IsTypeNameJudged, IsHomeOf}
 use Rattle.c_typing_laws.proofs.ExtensionLaws.{no_true, still_in}
 use Rattle.c_typing_laws.proofs.ConstructLaws.{two_unbroken, or_right}
 use Rattle.c_typing_laws.proofs.KeptTrees.{value-kept, type_name-kept}
-use Rattle.c_typing_laws.proofs.Outcomes.{construct-gives, gives-value, gives-state, never-gives, bind-gives}
+use Rattle.c_typing_laws.proofs.Outcomes.{construct-gives, gives-value, gives-state, never-gives, bind-gives, outside-gives}
 use Rattle.c_typing_laws.proofs.KnownStates.{stays, goes-on}
 use Rattle.c_typing_laws.proofs.ValuesTaken.{natural-plain, runtime-void, part-kept, given-same, value_of-gives, value-gives}
 use Rattle.c_typing_laws.proofs.JudgedOperators.{target-judged, index-judged, prefix-judged, infix-judged, before-judged, after-judged, paren-judged, integer-judged, character-judged, address-judged}
@@ -643,13 +643,13 @@ mutual
   parts-judged (tree.AndFunction all paren parameters) at parts s r k h =
       let void = is_void_alone parameters in
       let one = bind-gives (judge_parts at all s) (λ p. λ m. next (entered m)
-      (λ b. λ i. next (judge_parameters void parameters i) (λ list. λ n. next (left at list n) (λ whole. pure (typed.AndFunction p paren whole))))) parts r h in
+      (λ b. λ i. next (stopped_outside (judge_parameters void parameters i)) (λ list. λ n. next (left at list n) (λ whole. pure (typed.AndFunction p paren whole))))) parts r h in
       let j = parts-judged all at one.0 s one.1 k one.2 in
       let two = bind-gives (entered one.1)
-      (λ b. λ i. next (judge_parameters void parameters i) (λ list. λ n. next (left at list n) (λ whole. pure (typed.AndFunction one.0 paren whole)))) parts r one.3 in
+      (λ b. λ i. next (stopped_outside (judge_parameters void parameters i)) (λ list. λ n. next (left at list n) (λ whole. pure (typed.AndFunction one.0 paren whole)))) parts r one.3 in
       let inside = entered-judged two.0 one.1 two.1 j.goes.known two.2 in
-      let three = bind-gives (judge_parameters void parameters two.1) (λ list. λ n. next (left at list n) (λ whole. pure (typed.AndFunction one.0 paren whole))) parts r two.3 in
-      let p = parameters-judged parameters void three.0 two.1 three.1 (void_self parameters) inside.1.known three.2 in
+      let three = bind-gives (stopped_outside (judge_parameters void parameters two.1)) (λ list. λ n. next (left at list n) (λ whole. pure (typed.AndFunction one.0 paren whole))) parts r two.3 in
+      let p = parameters-judged parameters void three.0 two.1 three.1 (void_self parameters) inside.1.known (outside-gives (judge_parameters void parameters two.1) three.0 three.1 three.2) in
       function-step all one.0 parts at paren parameters two.0 three.0 s one.1 two.1 three.1 r j two.2 p three.3
 
   pub parameters-judged : (all : tree.Parameters) (void : Bool) (list : TypedParameters) (s r : State) → IsVoidOf void all → IsKnown s

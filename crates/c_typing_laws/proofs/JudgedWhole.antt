@@ -19,7 +19,7 @@ use Rattle.c_typing.specs.Checking.{checked, taken, becomes, value_tests, conver
 use Rattle.c_typing.specs.Constants.{constant_value, is_null_constant}
 use Rattle.c_typing.specs.Conversions.{implicit, is_allocation, is_pointer_to_complete, takes_over, IsAssignedBy}
 use Rattle.c_typing.specs.Declarators.{is_pointed}
-use Rattle.c_typing.specs.Declaring.{NotDerived, derived_by, is_function_by, unless_function, form_makes, entered, left}
+use Rattle.c_typing.specs.Declaring.{NotDerived, derived_by, is_function_by, unless_function, form_makes, entered, left, stopped_outside}
 use Rattle.c_typing.specs.Judging.{State, Gives, next, pure}
 use Rattle.c_typing.specs.Operands.{Operand, Value, value, side_of}
 use Rattle.c_typing.specs.Refusals.{is_void_alone}
@@ -46,7 +46,7 @@ use Rattle.c_typing_laws.proofs.KeptTrees.{form-kept, parameters-kept}
 use Rattle.c_typing_laws.proofs.JudgedSpecifiers.{tagged_as-judged}
 use Rattle.c_typing_laws.proofs.KnownScopes.{tag_here-there}
 use Rattle.c_typing_laws.proofs.KnownStates.{goes-on}
-use Rattle.c_typing_laws.proofs.Outcomes.{bind-gives, unless-gives, never-gives}
+use Rattle.c_typing_laws.proofs.Outcomes.{bind-gives, unless-gives, never-gives, outside-gives}
 use Rattle.c_typing_laws.proofs.ValuesTaken.{given-same}
 
 -- Lists of specifiers
@@ -165,10 +165,10 @@ pub prototype-judged : (at : Place) (all : tree.Parameters) (list : TypedParamet
     → IsPrototypeJudged all list s r
 unfolding judge_prototype
 prototype-judged at all list s r k h =
-    let one = bind-gives (entered s) (λ b. λ m. next (judge_parameters (is_void_alone all) all m) (left at)) list r h in
+    let one = bind-gives (entered s) (λ b. λ m. next (stopped_outside (judge_parameters (is_void_alone all) all m)) (left at)) list r h in
     let inside = entered-judged one.0 s one.1 k one.2 in
-    let two = bind-gives (judge_parameters (is_void_alone all) all one.1) (left at) list r one.3 in
-    let p = parameters-judged all (is_void_alone all) two.0 one.1 two.1 (void_self all) inside.1.known two.2 in
+    let two = bind-gives (stopped_outside (judge_parameters (is_void_alone all) all one.1)) (left at) list r one.3 in
+    let p = parameters-judged all (is_void_alone all) two.0 one.1 two.1 (void_self all) inside.1.known (outside-gives (judge_parameters (is_void_alone all) all one.1) two.0 two.1 two.2) in
     let out = left-judged at two.0 list two.1 r p.goes.known two.3 in
     let void : is_void_alone all ≡ is_void_list two.0 = ap is_void_alone (sym p.erases) ∙ sym (voids-alike two.0) in
     let kept = parameters-kept two.1.table r.table out.2.extends p.goes.known.basic (is_void_alone all) two.0 one.1.seen.scopes two.1.seen.scopes p.typed in

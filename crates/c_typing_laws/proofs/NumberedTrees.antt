@@ -36,7 +36,7 @@ use Rattle.c_typing.specs.Assignments
 use Rattle.c_typing.specs.Constants.{constant_value}
 use Rattle.c_typing.specs.Declarators.{Counted, counted, counting_word, declarator_names, member_names}
 use Rattle.c_typing.specs.Declarators
-use Rattle.c_typing.specs.Declaring.{declarator_name, home_as, stars_with_nodes, size_given, sized_part, sized, declared_makes, form_makes, member_type, member_named, adjusted_with_node, parameter_makes, parameter_declared, parameter, entered, left}
+use Rattle.c_typing.specs.Declaring.{declarator_name, home_as, stars_with_nodes, size_given, sized_part, sized, declared_makes, form_makes, member_type, member_named, adjusted_with_node, parameter_makes, parameter_declared, parameter, entered, left, stopped_outside}
 use Rattle.c_typing.specs.Judging.{State, Judging, Gives, Stops, next, ◌>>=◌, pure, unless, by_known, new_node}
 use Rattle.c_typing.specs.Operands.{Operand, Value, value}
 use Rattle.c_typing.specs.Operations
@@ -58,7 +58,7 @@ use Rattle.c_typing_laws.proofs.JudgedTrees.{value-here, expr-judged, arguments-
 use Rattle.c_typing_laws.proofs.NodeNumbers.{Numbers, two-made, made-as, made-to, node-made}
 use Rattle.c_typing_laws.proofs.NodesKept.{form-keeps, declared-keeps, adjusted-keeps, named-keeps, entered-keeps, left-keeps, begun-keeps, ended-keeps, word-keeps, typedef_name-keeps, tagged-keeps, enum-keeps, begun_enumeration-keeps}
 use Rattle.c_typing_laws.proofs.NumberedConstructs.{IsNumbered, IsWhole, value-numbered, integer-numbered, character-numbered, literal-numbered, name-numbered, paren-numbered, target-numbered, address-numbered, prefix-numbered, size-numbered, before-numbered, after-numbered, index-numbered, infix-numbered, member-numbered, pointed-numbered, assign-numbered, update-numbered, choice-numbered, comma-numbered, cast-numbered, size_of_type-numbered, made_by_values, values_last, call-numbered}
-use Rattle.c_typing_laws.proofs.Outcomes.{bind-gives, unless-gives, gives-value, gives-state, never-gives}
+use Rattle.c_typing_laws.proofs.Outcomes.{bind-gives, unless-gives, gives-value, gives-state, never-gives, outside-gives}
 use Rattle.c_typing_laws.proofs.ValuesTaken.{given-same}
 
 -- what a part makes has the numbers from the next one before to the next one after
@@ -566,14 +566,14 @@ mutual
   parts-make (tree.AndFunction all paren parameters) at parts s r k h =
       let void = is_void_alone parameters in
       let one = bind-gives (judge_parts at all s) (λ p. λ m. next (entered m)
-      (λ b. λ i. next (judge_parameters void parameters i) (λ list. λ n. next (left at list n) (λ whole. pure (typed.AndFunction p paren whole))))) parts r h in
+      (λ b. λ i. next (stopped_outside (judge_parameters void parameters i)) (λ list. λ n. next (left at list n) (λ whole. pure (typed.AndFunction p paren whole))))) parts r h in
       let known = (parts-judged all at one.0 s one.1 k one.2).goes.known in
       let two = bind-gives (entered one.1)
-      (λ b. λ i. next (judge_parameters void parameters i) (λ list. λ n. next (left at list n) (λ whole. pure (typed.AndFunction one.0 paren whole)))) parts r one.3 in
+      (λ b. λ i. next (stopped_outside (judge_parameters void parameters i)) (λ list. λ n. next (left at list n) (λ whole. pure (typed.AndFunction one.0 paren whole)))) parts r one.3 in
       let inside = entered-judged two.0 one.1 two.1 known two.2 in
       let kept = entered-keeps one.1 one.1.seen.node refl two.0 two.1 two.2 in
-      let three = bind-gives (judge_parameters void parameters two.1) (λ list. λ n. next (left at list n) (λ whole. pure (typed.AndFunction one.0 paren whole))) parts r two.3 in
-      let made = parameters-make parameters void three.0 two.1 three.1 (void_self parameters) inside.1.known three.2 in
+      let three = bind-gives (stopped_outside (judge_parameters void parameters two.1)) (λ list. λ n. next (left at list n) (λ whole. pure (typed.AndFunction one.0 paren whole))) parts r two.3 in
+      let made = parameters-make parameters void three.0 two.1 three.1 (void_self parameters) inside.1.known (outside-gives (judge_parameters void parameters two.1) three.0 three.1 three.2) in
       let four = bind-gives (left at three.0 three.1) (λ whole. pure (typed.AndFunction one.0 paren whole)) parts r three.3 in
       let out = left-keeps at three.0 three.1 three.1.seen.node refl four.0 four.1 four.2 in
       let same = left_same at three.0 four.0 three.1 four.1 four.2 in

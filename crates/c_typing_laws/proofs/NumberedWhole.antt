@@ -16,7 +16,7 @@ use Rattle.c_typing.specs.declared.naming.Naming.{Naming}
 use Rattle.c_typing.specs.Checking.{checked, taken, value_tests, converted_part, converted_value, checked_value, Constant, constant_as, checked_constant}
 use Rattle.c_typing.specs.Constants.{constant_value}
 use Rattle.c_typing.specs.Conversions.{implicit}
-use Rattle.c_typing.specs.Declaring.{NotDerived, derived_by, is_function_by, unless_function, form_makes, entered, left}
+use Rattle.c_typing.specs.Declaring.{NotDerived, derived_by, is_function_by, unless_function, form_makes, entered, left, stopped_outside}
 use Rattle.c_typing.specs.Judging.{State, Gives, next, pure}
 use Rattle.c_typing.specs.Operands.{Operand, Value, value, side_of}
 use Rattle.c_typing.specs.Refusals.{is_void_alone}
@@ -34,7 +34,7 @@ use Rattle.c_typing_laws.proofs.NodeNumbers.{Numbers, made-as, made-to, numbered
 use Rattle.c_typing_laws.proofs.NodesKept.{obeying-keeps, tagged_by-keeps, form-keeps, entered-keeps, left-keeps}
 use Rattle.c_typing_laws.proofs.NumberedConstructs.{IsNumbered, IsWhole, part_as, value-numbered, given-numbered, converted-made, side-made}
 use Rattle.c_typing_laws.proofs.NumberedTrees.{Makes, still, value-makes, operand-whole, left_same, expr-makes, specifiers-make, form-makes, parameters-make}
-use Rattle.c_typing_laws.proofs.Outcomes.{bind-gives, unless-gives, gives-value, never-gives}
+use Rattle.c_typing_laws.proofs.Outcomes.{bind-gives, unless-gives, gives-value, never-gives, outside-gives}
 use Rattle.c_typing_laws.proofs.ValuesTaken.{given-same}
 
 pub expr-numbers : (called : Bool) (e : tree.Expr) (o : Operand) (s r : State) → IsKnown s → judge called e s ≡ Gives o r → AreNumberedFrom (made_by_part o.part) s r
@@ -99,11 +99,11 @@ pub prototype-numbers : (at : Place) (all : tree.Parameters) (list : TypedParame
     → AreNumberedFrom (made_by_parameters list) s r
 unfolding judge_prototype
 prototype-numbers at all list s r k h =
-    let one = bind-gives (entered s) (λ b. λ m. next (judge_parameters (is_void_alone all) all m) (left at)) list r h in
+    let one = bind-gives (entered s) (λ b. λ m. next (stopped_outside (judge_parameters (is_void_alone all) all m)) (left at)) list r h in
     let inside = entered-judged one.0 s one.1 k one.2 in
     let kept = entered-keeps s s.seen.node refl one.0 one.1 one.2 in
-    let two = bind-gives (judge_parameters (is_void_alone all) all one.1) (left at) list r one.3 in
-    let made = parameters-make all (is_void_alone all) two.0 one.1 two.1 (void_self all) inside.1.known two.2 in
+    let two = bind-gives (stopped_outside (judge_parameters (is_void_alone all) all one.1)) (left at) list r one.3 in
+    let made = parameters-make all (is_void_alone all) two.0 one.1 two.1 (void_self all) inside.1.known (outside-gives (judge_parameters (is_void_alone all) all one.1) two.0 two.1 two.2) in
     let out = left-keeps at two.0 two.1 two.1.seen.node refl list r two.3 in
     subst (λ (v : TypedParameters). AreNumberedFrom (made_by_parameters v) s r) (left_same at two.0 list two.1 r two.3)
     (numbered-from (made_by_parameters two.0) s r (made-to (made_by_parameters two.0) s.seen.node two.1.seen.node r.seen.node out

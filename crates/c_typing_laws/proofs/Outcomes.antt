@@ -1,5 +1,5 @@
 -- Outcomes: what is given, and where it stops, by the steps that it is made of.
-use Rattle.std.proofs.Common.{◌≡◌, ℕ, ◌+◌, Bool, true, false, nat_lt, List, Option, Some, None, refl, ap, sym, ◌∙◌, inl, inr, ◌⊎◌, true≢false, if◌then◌else◌}
+use Rattle.std.proofs.Common.{◌≡◌, ℕ, ◌+◌, Bool, true, false, nat_lt, length, List, Option, Some, None, refl, ap, sym, ◌∙◌, inl, inr, ◌⊎◌, true≢false, if◌then◌else◌}
 use Rattle.cc_base.specs.declared.place.Place.{Place}
 use Rattle.cc_base.specs.declared.number.NodeId.{NodeId}
 use Rattle.cc_base.specs.declared.fault.Fault.{Fault}
@@ -12,6 +12,8 @@ use Rattle.c_typing.specs.Judging.{State, Outcome, Judging, Gives, Stops, next, 
 use Rattle.c_typing.specs.Operands.{Operand}
 use Rattle.c_typing.specs.Operations.{construct, leaf}
 use Rattle.c_typing.specs.Tests.{Elaborated, Test, first_broken}
+use Rattle.c_typing.specs.Declaring.{once_left, stopped_outside}
+use Rattle.c_typing.specs.Scopes.{leaving, with_scopes}
 
 value_in : {A : Type 0} → A → Outcome A → A
 value_in d (Gives a s) = a
@@ -67,6 +69,27 @@ bind-stops {B = B} (Stops y s) f x r h =
     let fault = stops-fault B y x s r h in
     let state = stops-state B y x s r h in
     inl (λ i. Stops (fault i) (state i))
+
+-- A scope of its own that is left also where judging stops
+
+pub outside-gives : {A : Type 0} (m : Outcome A) (a : A) (r : State) → stopped_outside m ≡ Gives a r → m ≡ Gives a r
+outside-gives (Gives b s) a r h = h
+outside-gives (Stops x s) a r h = never-gives a x (once_left s) r h
+
+outside_table : (s : State) → (once_left s).table ≡ s.table
+outside_table s = by (nat_lt 1 (length s.seen.scopes.levels))
+  where
+    by : (b : Bool) → (if b then record s { seen = with_scopes s.seen (leaving s.seen.scopes) } else s).table ≡ s.table
+    by true = refl
+    by false = refl
+
+pub outside-stops : {A : Type 0} (m : Outcome A) (x : Fault) (r : State) → stopped_outside m ≡ Stops x r → (q : State) × (m ≡ Stops x q) × (q.table ≡ r.table)
+outside-stops (Gives a s) x r h = never-stops a x s r h
+outside-stops {A} (Stops y s) x r h = (
+  s,
+  ap (λ (f : Fault). Stops f s) (stops-fault A y x (once_left s) r h),
+  sym (outside_table s) ∙ ap (λ (q : State). q.table) (stops-state A y x (once_left s) r h),
+)
 
 pub unless-gives : {A : Type 0} (o : Option Fault) (go : Judging A) (s : State) (a : A) (r : State) → unless o go s ≡ Gives a r → (o ≡ None) × (go s ≡ Gives a r)
 unless-gives None go s a r h = (refl, h)

@@ -80,6 +80,11 @@ use Rattle.c_typing_laws.proofs.ValuesTaken.{given-same, part-kept, value-never}
 use Rattle.c_typing_laws.proofs.TypesThere.{part-there}
 use Rattle.c_typing_laws.proofs.JudgedAssignments.{given-gives}
 
+-- What is refused is refused where only the table is the same
+
+pub refused-outside : (P : Table → Type 0) (s q r : State) → q.table ≡ r.table → IsRefused P s q → IsRefused P s r
+refused-outside P s q r e i = record { fails = subst P e i.fails; extends = subst (IsExtended s.table) e i.extends }
+
 -- Leaves refuse nothing
 
 leaf-never : (at : Place) (made : Judging Elaborated) (s : State) → NeverRefuses (made s) → NeverRefuses (leaf at made s)

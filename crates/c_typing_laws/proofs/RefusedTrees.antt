@@ -21,7 +21,7 @@ use Rattle.c_typing.specs.Adjusting.{derived_by_declared, typedef_place, adjuste
 use Rattle.c_typing.specs.Assignments
 use Rattle.c_typing.specs.Assignments.{part_type, string_type, is_char_array, count_global, literal_size}
 use Rattle.c_typing.specs.Declarators.{Counted, Written, counted, declarator_names, member_names}
-use Rattle.c_typing.specs.Declaring.{declarator_name, declared_name, home_as, stars_with_nodes, sized, declared_makes, member_named, parameter, entered, left}
+use Rattle.c_typing.specs.Declaring.{declarator_name, declared_name, home_as, stars_with_nodes, sized, declared_makes, member_named, parameter, entered, left, stopped_outside}
 use Rattle.c_typing.specs.Extensions.{IsExtended}
 use Rattle.c_typing.specs.Judging.{State, Stops, next, pure}
 use Rattle.c_typing.specs.Operands.{Operand, value, side_of}
@@ -44,7 +44,7 @@ use Rattle.c_typing_laws.proofs.JudgedSpecifiers.{begun-judged, enumeration_begu
 use Rattle.c_typing_laws.proofs.JudgedTrees.{type_name-judged, specifiers-judged, members-judged, row-judged, enumerators-judged, form-judged, core-judged, parts-judged, parameters-judged, declared-judged, begun_goes, void_self}
 use Rattle.c_typing_laws.proofs.KeptTrees.{type_name-kept, specifiers-kept, listed-kept, members-kept, member_declarators-kept, enumerators-kept, form-kept, core-kept, parts-kept, parameters-kept, declared-kept}
 use Rattle.c_typing_laws.proofs.KnownStates.{goes-on}
-use Rattle.c_typing_laws.proofs.Outcomes.{never-stops, gives-never, large-never, next-never}
+use Rattle.c_typing_laws.proofs.Outcomes.{never-stops, gives-never, large-never, next-never, outside-stops}
 use Rattle.c_typing_laws.proofs.PartsTaken.{taken-part, call-alike}
 use Rattle.c_typing_laws.proofs.RefusedConstructs.{size_of_type-refused, after-refused, index-refused, infix-refused, member-refused, pointed-refused, choice-refused, call-refused, name-refused, cast-refused}
 use Rattle.c_typing_laws.proofs.RefusedDeclarators
@@ -56,7 +56,7 @@ use Rattle.c_typing_laws.proofs.TestsAlike.{index-refuses}
 use Rattle.c_typing_laws.proofs.ValuesTaken
 use Rattle.c_typing_laws.proofs.ValuesTaken.{given-same, part-kept, value-never}
 use Rattle.c_typing_laws.proofs.JudgedAssignments.{given-gives}
-use Rattle.c_typing_laws.proofs.RefusedSteps.{prefix-any, FailsAt, arguments-taken, assign-any, begins_over, begun-never, begun_enumeration-never, behind-value, character-never, comma-never, declared_named, ended-fails, entered-never, enum-fails, enumeration-fails, enumerator-fails, home-never, integer-never, left-never, literal-never, operand-fails, operand-first, or_void, pair-refused, paren-never, second, sized-fails, stars-never, started-judged, step-refused, tagged-fails, taken_over, typedef-fails, update-any, value-fails, value-first, valued-fails, word-fails}
+use Rattle.c_typing_laws.proofs.RefusedSteps.{prefix-any, FailsAt, arguments-taken, assign-any, begins_over, begun-never, begun_enumeration-never, behind-value, character-never, comma-never, declared_named, ended-fails, entered-never, enum-fails, enumeration-fails, enumerator-fails, home-never, integer-never, left-never, literal-never, operand-fails, operand-first, or_void, pair-refused, paren-never, second, sized-fails, stars-never, started-judged, step-refused, tagged-fails, taken_over, typedef-fails, update-any, value-fails, value-first, valued-fails, word-fails, refused-outside}
 
 module _ (p : Place) (t : Rule) where
   mutual
@@ -498,18 +498,21 @@ module _ (p : Place) (t : Rule) where
         let void = is_void_alone parameters in
         let P : Table → Type 0 = λ T. RefusesParts T (tree.AndFunction all paren parameters) s.seen.scopes (Refused p t) in
         step-refused p t (judge_parts at all s) (λ a. λ m. next (entered m)
-        (λ b. λ i. next (judge_parameters void parameters i) (λ list. λ n. next (left at list n) (λ whole. pure (typed.AndFunction a paren whole))))) P s r
+        (λ b. λ i. next (stopped_outside (judge_parameters void parameters i)) (λ list. λ n. next (left at list n) (λ whole. pure (typed.AndFunction a paren whole))))) P s r
         (λ q. let i = parts-refuses all at s r k q in record { fails = inl i.fails; extends = i.extends })
         (λ a m q g.
         let j = parts-judged all at a s m k q in
         refused-after P s m r j.goes.extends
-        (step-refused p t (entered m) (λ b. λ i. next (judge_parameters void parameters i) (λ list. λ n. next (left at list n) (λ whole. pure (typed.AndFunction a paren whole)))) P m r
+        (step-refused p t (entered m) (λ b. λ i. next (stopped_outside (judge_parameters void parameters i)) (λ list. λ n. next (left at list n) (λ whole. pure (typed.AndFunction a paren whole)))) P m r
         (λ q2. absurd (entered-never p t m p t r q2))
         (λ b l q2 g2.
         let inside = entered-judged b m l j.goes.known q2 in
         refused-after P m l r inside.1.extends
-        (step-refused p t (judge_parameters void parameters l) (λ list. λ n. next (left at list n) (λ whole. pure (typed.AndFunction a paren whole))) P l r
-        (λ q3. let i = parameters-refuses parameters void l r (void_self parameters) inside.1.known q3 in record {
+        (step-refused p t (stopped_outside (judge_parameters void parameters l)) (λ list. λ n. next (left at list n) (λ whole. pure (typed.AndFunction a paren whole))) P l r
+        (λ q3.
+        let stop = outside-stops (judge_parameters void parameters l) (Refused p t) r q3 in
+        let i = refused-outside (λ T. RefusesParameters T void parameters l.seen.scopes (Refused p t)) l stop.0 r stop.2
+        (parameters-refuses parameters void l stop.0 (void_self parameters) inside.1.known stop.1) in record {
           fails = inr (
             a,
             m.seen.scopes,

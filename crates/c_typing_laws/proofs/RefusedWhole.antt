@@ -16,7 +16,7 @@ use Rattle.c_tree.specs.TypedTree.{TypedExpr, TypedSpecifierList}
 use Rattle.c_typing.specs.declared.naming.Naming.{Naming}
 use Rattle.c_typing.specs.Checking.{checked, taken, becomes, value_tests, converted_part, converted_value, checked_value, Constant, constant_as, checked_constant}
 use Rattle.c_typing.specs.Constants.{constant_value}
-use Rattle.c_typing.specs.Declaring.{NotDerived, derived_by, declarator_name, is_function_by, unless_function, form_makes, entered, left}
+use Rattle.c_typing.specs.Declaring.{NotDerived, derived_by, declarator_name, is_function_by, unless_function, form_makes, entered, left, stopped_outside}
 use Rattle.c_typing.specs.Judging.{State, Stops, next, pure, by_known}
 use Rattle.c_typing.specs.Operands.{Operand, Value, value, side_of, given}
 use Rattle.c_typing.specs.Refusals.{After, Fails, Refuses, RefusesSpecifiers, RefusesAlone, RefusesParameters, name_place, is_void_alone}
@@ -33,11 +33,11 @@ use Rattle.c_typing_laws.proofs.JudgedAssignments.{given-gives}
 use Rattle.c_typing_laws.proofs.JudgedDeclarators.{entered-judged}
 use Rattle.c_typing_laws.proofs.JudgedTrees.{IsJudgedFree, form-judged, void_self}
 use Rattle.c_typing_laws.proofs.KeptTrees.{form-kept}
-use Rattle.c_typing_laws.proofs.Outcomes.{bind-gives, gives-value, gives-state, never-stops, stops-fault, stops-state, gives-never, next-never}
+use Rattle.c_typing_laws.proofs.Outcomes.{bind-gives, gives-value, gives-state, never-stops, stops-fault, stops-state, gives-never, next-never, outside-stops}
 use Rattle.c_typing_laws.proofs.PartsTaken.{taken-part, constant-alike}
 use Rattle.c_typing_laws.proofs.RefusedConstructs.{given-never}
 use Rattle.c_typing_laws.proofs.RefusedDeclarators.{refused-here, refused-after, obeying-refuses, form-refused}
-use Rattle.c_typing_laws.proofs.RefusedSteps.{tagged_by-never, left-never, entered-never, step-refused, operand-first, value-first, value-fails, second}
+use Rattle.c_typing_laws.proofs.RefusedSteps.{tagged_by-never, left-never, entered-never, step-refused, operand-first, value-first, value-fails, second, refused-outside}
 use Rattle.c_typing_laws.proofs.RefusedTrees.{expr-refuses, specifiers-refuses, form-refuses, parameters-refuses}
 use Rattle.c_typing_laws.proofs.SidesAlike.{fits_same}
 use Rattle.c_typing_laws.proofs.SidesTaken.{given-side}
@@ -143,12 +143,15 @@ module _ (p : Place) (t : Rule) where
   unfolding judge_prototype
   prototype-refuses at all s r k h =
       let P : Table → Type 0 = λ T. RefusesParameters T (is_void_alone all) all (entering s.seen.scopes) (Refused p t) in
-      step-refused p t (entered s) (λ b. λ m. next (judge_parameters (is_void_alone all) all m) (left at)) P s r (λ q. absurd (entered-never p t s p t r q))
+      step-refused p t (entered s) (λ b. λ m. next (stopped_outside (judge_parameters (is_void_alone all) all m)) (left at)) P s r (λ q. absurd (entered-never p t s p t r q))
       (λ b m q g.
       let inside = entered-judged b s m k q in
       refused-after P s m r inside.1.extends
-      (step-refused p t (judge_parameters (is_void_alone all) all m) (left at) P m r
-      (λ q2. let i = parameters-refuses p t all (is_void_alone all) m r (void_self all) inside.1.known q2 in record {
+      (step-refused p t (stopped_outside (judge_parameters (is_void_alone all) all m)) (left at) P m r
+      (λ q2.
+      let stop = outside-stops (judge_parameters (is_void_alone all) all m) (Refused p t) r q2 in
+      let i = refused-outside (λ T. RefusesParameters T (is_void_alone all) all m.seen.scopes (Refused p t)) m stop.0 r stop.2
+      (parameters-refuses p t all (is_void_alone all) m stop.0 (void_self all) inside.1.known stop.1) in record {
         fails = subst (λ (c : Scopes). RefusesParameters r.table (is_void_alone all) all c (Refused p t)) inside.0 i.fails;
         extends = i.extends;
       })

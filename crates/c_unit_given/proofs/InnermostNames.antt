@@ -1,8 +1,8 @@
 -- Names that the innermost scope doesn't have.
-use Rattle.std.proofs.Common.{◌≡◌, ◌<◌, Bool, true, false, List, [], ◌∷◌, ◌++◌, length, Option, Some, None, refl, sym, bytes_eq, if◌then◌else◌, arith}
+use Rattle.std.proofs.Common.{◌≡◌, Bool, true, false, List, [], ◌∷◌, ◌++◌, Option, Some, None, refl, sym, bytes_eq, if◌then◌else◌}
 use Rattle.std.proofs.lemmas.Option.{none-some}
 use Rattle.c_typing.specs.declared.declared.Declared.{Declared}
-use Rattle.c_typing.specs.Scopes.{Name, Level, empty_level, at_innermost, with_name, entry_of, here}
+use Rattle.c_typing.specs.Scopes.{Name, Level, at_innermost, entry_of, here}
 
 -- Entries
 

@@ -1,21 +1,10 @@
 -- The outer scopes and the homes of objects where the innermost scope changes, and where one is entered or left.
-use Rattle.std.proofs.Common.{◌≡◌, ℕ, List, [], ◌∷◌, ◌++◌, refl, ap}
+use Rattle.std.proofs.Common.{ℕ, List, [], ◌∷◌}
 use Rattle.std.specs.List.{All}
 use Rattle.std.proofs.lemmas.List.Elements.{All-head, All-tail, All-cons, All-nil, All-push}
 use Rattle.c_typing.specs.declared.declared.Declared.{Declared}
 use Rattle.c_typing.specs.Scopes.{Name, Level, at_innermost, innermost, with_name, without_innermost}
 use Rattle.c_unit_given.proofs.UnitGiven.{IsHomeBelow, AreHomesBelow}
-
-pub outer-same : (f : Level → Level) (ls : List Level) → without_innermost (at_innermost f ls) ≡ without_innermost ls
-outer-same f [] = refl
-outer-same f (l ∷ []) = refl
-outer-same f (l ∷ (m ∷ [])) = refl
-outer-same f (l ∷ (m ∷ (n ∷ ls))) = ap (λ (rest : List Level). l ∷ rest) (outer-same f (m ∷ (n ∷ ls)))
-
-pub outer-of : (ls : List Level) (l : Level) → without_innermost (ls ++ l ∷ []) ≡ ls
-outer-of [] l = refl
-outer-of (m ∷ []) l = refl
-outer-of (m ∷ (k ∷ ls)) l = ap (λ (rest : List Level). m ∷ rest) (outer-of (k ∷ ls) l)
 
 abbrev pub IsLevelBelow : ℕ → Level → Type 0
 IsLevelBelow n l = All (λ (e : Name × Declared). IsHomeBelow n e.1) l.names

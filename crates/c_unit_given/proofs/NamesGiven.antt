@@ -14,7 +14,6 @@ use Rattle.c_typing.specs.Assignments.{count_global}
 use Rattle.c_typing.specs.Scopes.{Name, Scopes, here, entry_of, with_name, without_innermost, declaring, place_among, is_complete_at}
 use Rattle.c_typing.specs.Settled.{IsThere}
 use Rattle.c_typing_unique.specs.Sameness.{HasOwnFunctions}
-use Rattle.c_typing_given.proofs.LevelsKept.{length-innermost}
 use Rattle.c_typing_given.proofs.Settling.{small-kept}
 use Rattle.c_typing_given.proofs.TypeGiven.{le_true, none-same}
 use Rattle.c_rules_alike.proofs.TypesAlike.{complete-over}
@@ -27,8 +26,9 @@ use Rattle.c_unit_typing.specs.UnitJudging.{UnitState, UnitOutcome, Gives, known
 use Rattle.c_unit_typing.proofs.KeptInitialisers.{complete-kept}
 use Rattle.c_unit_typing.proofs.NameSteps.{named_state, linked_state, static_state, named-goes, linked-goes, static-goes}
 use Rattle.c_unit_given.proofs.UnitGiven.{IsHomeBelow, AreHomesBelow, IsUnitHere}
-use Rattle.c_unit_given.proofs.LevelsBelow.{outer-same, homes-more}
+use Rattle.c_unit_given.proofs.LevelsBelow.{homes-more}
 use Rattle.c_unit_given.proofs.Runs.{then-is}
+use Rattle.c_typing.proofs.OpenScopes.{length-innermost, outer-same}
 
 -- the bytes of an object that lives as long as the program, with 16 more
 abbrev pub home_cost : Table → Home → TypeId → ℕ

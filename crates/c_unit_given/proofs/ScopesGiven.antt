@@ -24,8 +24,9 @@ use Rattle.c_unit_typing.specs.UnitJudging.{UnitState, UnitJudging, UnitOutcome,
 use Rattle.c_unit_typing.specs.StatementJudging.{within}
 use Rattle.c_unit_typing.proofs.UnitStates.{linkage-stays}
 use Rattle.c_unit_given.proofs.UnitGiven.{IsHomeBelow, IsUnitHere, IsUnitGivenAs, IsRun}
-use Rattle.c_unit_given.proofs.LevelsBelow.{IsLevelBelow, outer-of, homes-outer}
+use Rattle.c_unit_given.proofs.LevelsBelow.{IsLevelBelow, homes-outer}
 use Rattle.c_unit_given.proofs.Runs.{then-is, lifted-is}
+use Rattle.c_typing.proofs.OpenScopes.{outer-of}
 
 -- Levels
 

@@ -13,11 +13,11 @@ use Rattle.c_typing.specs.declared.declared.Declared.TheVariants as declared
 use Rattle.c_typing.specs.declared.declared.Tag.{Tag}
 use Rattle.c_typing.specs.declared.declared.Tag.TheVariants as tag
 use Rattle.c_typing.specs.Scopes.{Name, Level, Scopes, empty_level, at_innermost, without_innermost, with_name, with_tag, with_tag_set, tag_in, tag_here, here, entry_of, entering, leaving}
-use Rattle.c_typing.specs.Typing.{IsTyped, IsPlace, AreTyped, IsTypeName, AreSpecifiers, AreAlone, AreListed, IsSpecifier, AreMembers, AreMemberDeclarators, AreEnumerators, IsForm, IsCore, AreParts, AreParameters, IsDeclared, IsNewName, IsNewEnumerator, IsNewAggregate, IsTagged, BeginsAggregate, DeclaresParameter, tagging, counting_aggregate, tag_named_here, enumerating, EndsEnumeration}
-use Rattle.c_typing_given.proofs.LevelsKept.{length-innermost}
+use Rattle.c_typing.specs.Typing.{IsTyped, IsPlace, AreTyped, IsTypeName, AreSpecifiers, AreAlone, AreListed, IsSpecifier, AreMembers, AreMemberDeclarators, AreEnumerators, IsForm, IsCore, AreParts, AreParameters, IsDeclared, IsNewEnumerator, IsNewAggregate, IsTagged, BeginsAggregate, DeclaresParameter, tagging, counting_aggregate, tag_named_here, enumerating, EndsEnumeration}
 use Rattle.c_unit_given.proofs.UnitGiven.{AreHomesBelow, IsScopeKept, AreScopesKept}
-use Rattle.c_unit_given.proofs.LevelsBelow.{IsLevelBelow, outer-same, outer-of, homes-changed, level-more}
+use Rattle.c_unit_given.proofs.LevelsBelow.{IsLevelBelow, homes-changed, level-more}
 use Rattle.c_unit_given.proofs.InnermostNames.{entry-before, here-before}
+use Rattle.c_typing.proofs.OpenScopes.{length-innermost, outer-of, outer-same}
 
 -- Scopes
 

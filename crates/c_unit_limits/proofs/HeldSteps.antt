@@ -11,6 +11,7 @@ use Rattle.c_tree.specs.declared.leaf.StringPiece.{StringPiece}
 use Rattle.c_tree.specs.Places.{pieces_place}
 use Rattle.c_tree.specs.Tree as tree
 use Rattle.c_typing.specs.Assignments.{count_global, literal_size, literal}
+use Rattle.c_typing.specs.Declaring.{stopped_outside, stopping_outside}
 use Rattle.c_typing.specs.Held.{held}
 use Rattle.c_typing.specs.Judging.{State, Outcome, Judging, Gives, Stops, next, ◌>>=◌, pure, stop, by_known}
 use Rattle.c_typing.specs.Operands.{Operand}
@@ -86,6 +87,14 @@ known-held h = record { holds = λ s. (h s).holds s }
 
 pub stop-held : {A : Type 0} (f : Fault) (n w : ℕ) → IsHeld {A = A} (stop f) n w
 stop-held f n w = record { holds = λ s. tt }
+
+outside_holds : {A : Type 0} (o : Outcome A) (n w : ℕ) (s : State) → Holds o n w s → Holds (stopped_outside o) n w s
+outside_holds (Gives a r) n w s h = h
+outside_holds (Stops x r) n w s h = tt
+
+-- in a scope of its own, which a stop leaves
+pub outside-held : {A : Type 0} {p : Judging A} {n w : ℕ} → IsHeld p n w → IsHeld (stopping_outside p) n w
+outside-held {p} {n} {w} h = record { holds = λ s. outside_holds (p s) n w s (h.holds s) }
 
 few_bytes : (n : ℕ) → nat_le n 4194304 ≡ true → n ≤ 4194304
 few_bytes n h = grind (arith, nat_tests)

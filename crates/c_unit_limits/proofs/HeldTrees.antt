@@ -26,7 +26,7 @@ use Rattle.c_unit_limits.proofs.KeptTypes.{entered-kept, left-kept}
 use Rattle.c_unit_limits.proofs.KeptConstructs.{value-kept, integer-fit, character-fit, paren-fit, step_after-fit, prefix-fit, index-fit, infix-fit, member-fit, pointed-fit}
 use Rattle.c_unit_limits.proofs.KeptAssignments.{assign-fit, update-fit, choice-fit, comma-fit, cast-fit, size_of_type-fit, call-fit, name-fit}
 use Rattle.c_unit_limits.proofs.KeptDeclarators.{word-kept, typedef_name-kept, tagged-kept, begun-kept, ended-kept, enum_tag-kept, enumerator-kept, valued-kept, enumeration_begun-kept, enumeration-kept, home_as-kept, stars-kept, sized-kept, declared_makes-kept, member_named-kept, parameter-kept}
-use Rattle.c_unit_limits.proofs.HeldSteps.{IsHeld, bind-held, kept-held, first-held, last-held, stop-held, IsWhole, bind-whole, then-whole, after-whole, fit-whole, literal-whole, expr-whole, expr-alone}
+use Rattle.c_unit_limits.proofs.HeldSteps.{IsHeld, bind-held, kept-held, first-held, last-held, stop-held, IsWhole, bind-whole, then-whole, after-whole, fit-whole, literal-whole, expr-whole, expr-alone, outside-held}
 
 -- the value of an expression
 value_held : {p : Judging Operand} {n w : ℕ} → IsHeld p n w → IsHeld (p >>= value) n w
@@ -133,7 +133,7 @@ mutual
   parts-held (tree.AndSizedArray all bracket words e) at =
       bind-held (parts-held all at) (λ parts. first-held (value_held (expr-held e false)) (λ v. sized-kept parts bracket words v))
   parts-held (tree.AndFunction all paren parameters) at =
-      bind-held (parts-held all at) (λ parts. last-held entered-kept (λ inside. first-held (parameters-held parameters (is_void_alone parameters)) (λ list.
+      bind-held (parts-held all at) (λ parts. last-held entered-kept (λ inside. first-held (outside-held (parameters-held parameters (is_void_alone parameters))) (λ list.
       bind-kept (left-kept at list) (λ whole. pure-kept (_)))))
 
   pub parameters-held : (all : tree.Parameters) (void : Bool) → IsHeld (judge_parameters void all) (parameters_holds all) (parameters_literals all)

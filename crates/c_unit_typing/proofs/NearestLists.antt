@@ -20,7 +20,7 @@ use Rattle.c_tree.specs.TypedParts.{specified_type, is_void_list}
 use Rattle.c_tree.specs.Places.{nowhere}
 use Rattle.c_typing.specs.declared.naming.Naming.{Naming}
 use Rattle.c_typing.specs.Constants.{constant_value}
-use Rattle.c_typing.specs.Declaring.{NotDerived, derived_by, declarator_name, is_function_by, unless_function, home_as, stars_with_nodes, size_given, sized, sized_part, form_makes, entered, left}
+use Rattle.c_typing.specs.Declaring.{NotDerived, derived_by, declarator_name, is_function_by, unless_function, home_as, stars_with_nodes, size_given, sized, sized_part, form_makes, entered, left, stopped_outside}
 use Rattle.c_typing.specs.Extensions.{IsExtended}
 use Rattle.c_typing.specs.Judging.{State, Outcome, Gives, next, pure, by_known}
 use Rattle.c_typing.specs.Operands.{Value, value}
@@ -39,7 +39,7 @@ use Rattle.c_typing_laws.proofs.JudgedTrees.{value-here, expr-judged, form-judge
 use Rattle.c_typing_laws.proofs.KeptTrees.{parameters-kept}
 use Rattle.c_typing_laws.proofs.KnownScopes.{empty-there, levels-kept}
 use Rattle.c_typing_laws.proofs.KnownStates.{goes-on}
-use Rattle.c_typing_laws.proofs.Outcomes.{bind-gives, unless-gives, never-gives, gives-value, gives-state}
+use Rattle.c_typing_laws.proofs.Outcomes.{bind-gives, unless-gives, never-gives, gives-value, gives-state, outside-gives}
 use Rattle.c_typing_laws.proofs.TableGrowth.{extended_trans}
 use Rattle.c_unit_typing.specs.ParameterScopes.{parameters_written, scope_of_list, scope_of_declarator, scope_of_core, level_given, level_of}
 use Rattle.c_unit_typing.specs.Units.{declares_parameters, unless_pointer, parameters_of_form, parameters_of_core}
@@ -118,13 +118,13 @@ module _ (ps : TypedParameters) where
   parts-run (tree.AndFunction all paren parameters) at one s r k h outer found q =
       let void = is_void_alone parameters in
       let e1 = bind-gives (judge_parts at all s) (λ p. λ m. next (entered m)
-      (λ b. λ i. next (judge_parameters void parameters i) (λ list. λ n. next (left at list n) (λ whole. pure (typed.AndFunction p paren whole))))) one r h in
+      (λ b. λ i. next (stopped_outside (judge_parameters void parameters i)) (λ list. λ n. next (left at list n) (λ whole. pure (typed.AndFunction p paren whole))))) one r h in
       let j = parts-judged all at e1.0 s e1.1 k e1.2 in
       let e2 = bind-gives (entered e1.1)
-      (λ b. λ i. next (judge_parameters void parameters i) (λ list. λ n. next (left at list n) (λ whole. pure (typed.AndFunction e1.0 paren whole)))) one r e1.3 in
+      (λ b. λ i. next (stopped_outside (judge_parameters void parameters i)) (λ list. λ n. next (left at list n) (λ whole. pure (typed.AndFunction e1.0 paren whole)))) one r e1.3 in
       let inside = entered-judged e2.0 e1.1 e2.1 j.goes.known e2.2 in
-      let e3 = bind-gives (judge_parameters void parameters e2.1) (λ list. λ n. next (left at list n) (λ whole. pure (typed.AndFunction e1.0 paren whole))) one r e2.3 in
-      let p = parameters-judged parameters void e3.0 e2.1 e3.1 (void_self parameters) inside.1.known e3.2 in
+      let e3 = bind-gives (stopped_outside (judge_parameters void parameters e2.1)) (λ list. λ n. next (left at list n) (λ whole. pure (typed.AndFunction e1.0 paren whole))) one r e2.3 in
+      let p = parameters-judged parameters void e3.0 e2.1 e3.1 (void_self parameters) inside.1.known (outside-gives (judge_parameters void parameters e2.1) e3.0 e3.1 e3.2) in
       let e4 = bind-gives (left at e3.0 e3.1) (λ whole. pure (typed.AndFunction e1.0 paren whole)) one r e3.3 in
       let out = left-judged at e3.0 e4.0 e3.1 e4.1 p.goes.known e4.2 in
       let part : typed.AndFunction e1.0 paren e3.0 ≡ one = ap (typed.AndFunction e1.0 paren) out.0 ∙ gives-value (typed.AndFunction e1.0 paren e4.0) one e4.1 r e4.3 in
@@ -141,7 +141,7 @@ module _ (ps : TypedParameters) where
             first = e2.1;
             last = e3.1;
             enters = ap entered (sym given.2) ∙ e2.2;
-            gives = subst (λ (w : TypedParameters). judge_parameters void parameters e2.1 ≡ Gives w e3.1) (some-same e3.0 ps given.0) e3.2;
+            gives = subst (λ (w : TypedParameters). judge_parameters void parameters e2.1 ≡ Gives w e3.1) (some-same e3.0 ps given.0) (outside-gives (judge_parameters void parameters e2.1) e3.0 e3.1 e3.2);
             later = last;
           },
         )

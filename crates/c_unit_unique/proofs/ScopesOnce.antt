@@ -1,7 +1,7 @@
 -- A typed part and the scopes before it fix the scopes after it.
-use Rattle.std.proofs.Common.{◌≡◌, Bool, slice_set, Option, Some, None, refl, ap, sym, subst, ◌∙◌}
+use Rattle.std.proofs.Common.{◌≡◌, Bool, slice_set, Option, Some, None, ap, sym, subst, ◌∙◌}
 use Rattle.cc_base.specs.declared.number.TypeId.{TypeId}
-use Rattle.c_types.specs.Table.{Table, shape_at}
+use Rattle.c_types.specs.Table.{Table}
 use Rattle.c_tree.specs.declared.leaf.Identifier.{Identifier}
 use Rattle.c_tree.specs.declared.operator.AggregateKind.{AggregateKind}
 use Rattle.c_tree.specs.declared.typed_word.Home.{Home}
@@ -10,7 +10,6 @@ use Rattle.c_tree.specs.TypedTree as typed
 use Rattle.c_tree.specs.TypedTree.{TypedExpr, TypedPlace, TypedArguments, TypedTypeName, TypedSpecifiers, TypedSpecifierList, TypedSpecifier, TypedMembers, TypedMemberDeclarators, TypedEnumerators, TypedForm, TypedCore, TypedParts, TypedParameters, TypedDeclared}
 use Rattle.c_tree.specs.TypedParts.{specified_type, declared_home, is_void_list}
 use Rattle.c_typing.specs.Declarators.{member_names}
-use Rattle.c_typing.specs.Rules.{number_of_shape}
 use Rattle.c_typing.specs.declared.declared.Declared.{Declared}
 use Rattle.c_typing.specs.declared.declared.Declared.TheVariants as declared
 use Rattle.c_typing.specs.declared.declared.Tag.{Tag}

@@ -45,7 +45,7 @@ fn expr_start(e: &TypedExpr) -> Place
     match e {
         TypedExpr::Integer(_, _, at, _) => *at,
         TypedExpr::Character(_, at, _) => *at,
-        TypedExpr::Enumerator(name, _, _) => name.place,
+        TypedExpr::Enumerator(name, _, _) => name.get().place,
         TypedExpr::FunctionName(name, _, _, _) => name.place,
         TypedExpr::RuntimeName(name, _, _) => name.place,
         TypedExpr::Paren(at, _) => *at,

@@ -9,7 +9,7 @@ ghost use Rattle.lower_rules.specs.Words.{value};
 ghost use Rattle.lower_exprs.specs.Drafts.{context_of, Grows};
 ghost use Rattle.lower_statements.specs.Ready.{HasCodeOfEffect, HasCodeOfTest};
 
-use c_tree::TypedExpr;
+use c_tree::{Boxed, TypedExpr};
 use cc_base::Place;
 use cil_form::{Code, Instr, Temp};
 use lower_exprs::{Draft, Scope, choose, expr, fail, keep, put, refuse, start};
@@ -70,24 +70,24 @@ pub(crate) fn test(out: &mut Draft, k: &Scope<'_>, c: &TypedExpr)
 }
 
 /// The same of a condition that may be missing.
-pub(crate) fn condition(out: &mut Draft, k: &Scope<'_>, c: &Option<TypedExpr>)
+pub(crate) fn condition(out: &mut Draft, k: &Scope<'_>, c: &Option<Boxed<TypedExpr>>)
     ensures { Grows (IsCodeOfTest (option_map typed_expr_view c.now) (context_of k.now))
         (HasCodeOfTest (option_map typed_expr_view c.now) (context_of k.now)) out.old out.new }
 {
     match c {
         None => keep(out),
-        Some(c) => test(out, k, c),
+        Some(c) => test(out, k, c.get()),
     }
 }
 
 /// Appends the code of an expression, where there is one, for what it does.
-pub(crate) fn effect(out: &mut Draft, k: &Scope<'_>, e: &Option<TypedExpr>)
+pub(crate) fn effect(out: &mut Draft, k: &Scope<'_>, e: &Option<Boxed<TypedExpr>>)
     ensures { Grows (IsCodeOfEffect (option_map typed_expr_view e.now) (context_of k.now))
         (HasCodeOfEffect (option_map typed_expr_view e.now) (context_of k.now)) out.old out.new }
 {
     match e {
         None => keep(out),
-        Some(e) => expr(out, k, 0, e),
+        Some(e) => expr(out, k, 0, e.get()),
     }
 }
 

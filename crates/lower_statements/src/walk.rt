@@ -73,14 +73,14 @@ pub fn statement(out: &mut Draft, k: &Scope<'_>, v: Nesting, s: &TypedStatement)
         TypedStatement::Express(e) => expr(out, k, 0, e),
         TypedStatement::Empty => keep(out),
         TypedStatement::If(_, _, c, s) => {
-            expr(out, k, 0, c);
+            expr(out, k, 0, c.get());
             let mut then = start(k);
             statement(&mut then, k, v, s.get());
             let otherwise = start(k);
             choose(out, 0, then, otherwise)
         }
         TypedStatement::IfElse(_, _, c, s, r) => {
-            expr(out, k, 0, c);
+            expr(out, k, 0, c.get());
             let mut then = start(k);
             statement(&mut then, k, v, s.get());
             let mut otherwise = start(k);
@@ -88,6 +88,7 @@ pub fn statement(out: &mut Draft, k: &Scope<'_>, v: Nesting, s: &TypedStatement)
             choose(out, 0, then, otherwise)
         }
         TypedStatement::Switch(at, _, e, _, items) => {
+            let e = e.get();
             let items = items.as_slice();
             labels_fit(out, items);
             let mut inner = start(k);
@@ -99,7 +100,7 @@ pub fn statement(out: &mut Draft, k: &Scope<'_>, v: Nesting, s: &TypedStatement)
         }
         TypedStatement::While(_, _, c, s) => {
             let mut round = start(k);
-            test(&mut round, k, c);
+            test(&mut round, k, c.get());
             let mut body = start(k);
             statement(&mut body, k, in_loop(v), s.get());
             put_block(&mut round, body);
@@ -110,7 +111,7 @@ pub fn statement(out: &mut Draft, k: &Scope<'_>, v: Nesting, s: &TypedStatement)
             let mut body = start(k);
             statement(&mut body, k, in_loop(v), s.get());
             put_block(&mut round, body);
-            test(&mut round, k, c);
+            test(&mut round, k, c.get());
             put_loop(out, round)
         }
         TypedStatement::For(_, _, first, c, step, s) => {
@@ -124,7 +125,7 @@ pub fn statement(out: &mut Draft, k: &Scope<'_>, v: Nesting, s: &TypedStatement)
             put_loop(out, round)
         }
         TypedStatement::ForDeclaration(_, _, d, c, step, s) => {
-            declaration(out, k, d);
+            declaration(out, k, d.get());
             let mut round = start(k);
             condition(&mut round, k, c);
             let mut body = start(k);
@@ -138,6 +139,7 @@ pub fn statement(out: &mut Draft, k: &Scope<'_>, v: Nesting, s: &TypedStatement)
         TypedStatement::Return(at, e) => match e {
             None => put(out, Instr::Return),
             Some(e) => {
+                let e = e.get();
                 expr(out, k, 0, e);
                 put_return(out, e, *at)
             }

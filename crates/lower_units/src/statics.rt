@@ -120,7 +120,7 @@ fn statement(out: &mut Draft, k: &Scope<'_>, one: &TypedStatement)
         TypedStatement::DoWhile(s, _, _, _) => statement(out, k, s.get()),
         TypedStatement::For(_, _, _, _, _, s) => statement(out, k, s.get()),
         TypedStatement::ForDeclaration(_, _, d, _, _, s) => {
-            declaration(out, k, d);
+            declaration(out, k, d.get());
             statement(out, k, s.get())
         }
         TypedStatement::Break(_) => skip(out, k),

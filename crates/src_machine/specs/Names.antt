@@ -3,7 +3,6 @@ use Rattle.std.specs.Prelude.{Bool, true, false, if◌then◌else◌, List, [], 
 use Rattle.cc_base.specs.declared.number.NodeId.{NodeId}
 use Rattle.cc_base.specs.declared.number.TypeId.{TypeId}
 use Rattle.c_types.specs.Table.{Table, is_function}
-use Rattle.c_lexer.specs.declared.word.Keyword.{Keyword}
 use Rattle.c_tree.specs.Words.{is_typedef_word}
 use Rattle.c_tree.specs.declared.leaf.Identifier.{Identifier}
 use Rattle.c_tree.specs.TypedTree as typed

@@ -11,7 +11,7 @@ ghost use Rattle.unit_parts.specs.Collecting.{Collects};
 
 use crate::copies::ask_copies;
 use c_tree::{
-    TypedBlockItem, TypedDeclaration, TypedExpr, TypedExternal, TypedInitDeclarator,
+    Boxed, TypedBlockItem, TypedDeclaration, TypedExpr, TypedExternal, TypedInitDeclarator,
     TypedInitialiser, TypedItem, TypedStatement, TypedUnit,
 };
 use unit_parts::{Collected, Scope, declarator, expr, keep, place, specifiers};
@@ -92,12 +92,12 @@ fn declaration(out: &mut Collected, k: &Scope<'_>, one: &TypedDeclaration)
 }
 
 /// An expression that may be left out.
-fn optional(out: &mut Collected, k: &Scope<'_>, one: &Option<TypedExpr>)
+fn optional(out: &mut Collected, k: &Scope<'_>, one: &Option<Boxed<TypedExpr>>)
     ensures { Collects k.now.types.now (made_by_optional (option_map typed_expr_view one.now))
         (pieces_of_optional (option_map typed_expr_view one.now)) out.old out.new }
 {
     match one {
-        Some(e) => expr(out, k, e),
+        Some(e) => expr(out, k, e.get()),
         None => keep(out, k),
     }
 }
@@ -113,25 +113,25 @@ fn statement(out: &mut Collected, k: &Scope<'_>, one: &TypedStatement)
         TypedStatement::Express(e) => expr(out, k, e),
         TypedStatement::Empty => keep(out, k),
         TypedStatement::If(_, _, c, s) => {
-            expr(out, k, c);
+            expr(out, k, c.get());
             statement(out, k, s.get())
         }
         TypedStatement::IfElse(_, _, c, s, other) => {
-            expr(out, k, c);
+            expr(out, k, c.get());
             statement(out, k, s.get());
             statement(out, k, other.get())
         }
         TypedStatement::Switch(_, _, e, _, items) => {
-            expr(out, k, e);
+            expr(out, k, e.get());
             block(out, k, items.as_slice())
         }
         TypedStatement::While(_, _, c, s) => {
-            expr(out, k, c);
+            expr(out, k, c.get());
             statement(out, k, s.get())
         }
         TypedStatement::DoWhile(s, _, _, c) => {
             statement(out, k, s.get());
-            expr(out, k, c)
+            expr(out, k, c.get())
         }
         TypedStatement::For(_, _, first, test, step, s) => {
             optional(out, k, first);
@@ -140,7 +140,7 @@ fn statement(out: &mut Collected, k: &Scope<'_>, one: &TypedStatement)
             statement(out, k, s.get())
         }
         TypedStatement::ForDeclaration(_, _, first, test, step, s) => {
-            declaration(out, k, first);
+            declaration(out, k, first.get());
             optional(out, k, test);
             optional(out, k, step);
             statement(out, k, s.get())

@@ -1,7 +1,7 @@
 use Rattle.std.proofs.Common.{rules, arith, take, ap}
 use Rattle.std.proofs.lemmas.Grind.{common_steps}
 use Rattle.c_tree.proofs.PushLaws.{pushes}
-use Rattle.c_tree.proofs.StatementViewLaws.{statement_views}
+use Rattle.c_tree.proofs.StatementViewLaws.{statement_views, view_statement-ForDeclaration}
 use Rattle.c_tree.proofs.TypedStatementViewLaws.{typed_statement_views}
 use Rattle.c_tree.specs.TypedViews.{typed_expr_view}
 use Rattle.c_tree.specs.Views.{expr_view}
@@ -193,3 +193,7 @@ statement-returns-in_ok-boxed-in-IfElse t c =
     c.in_ok-enter-in-IfElse.ensures c.in_ok-test-in-IfElse.ensures c.in_ok-one-in-IfElse.ensures c.in_ok-other-in-IfElse.ensures
     (tried_alike _ _ _ _ _ (ap typed_expr_view c.get-condition.ensures) (c.in_ok-try_condition-in-IfElse.ensures _)) c.in_ok-leave-in-IfElse.ensures in
     first_of (search (rules, statement_views, typed_statement_views), grind (arith, common_steps, statement_views, typed_statement_views, given))
+
+pub statement-returns-in-ForDeclaration : goal.statement-returns-in-ForDeclaration
+statement-returns-in-ForDeclaration t c =
+    rw (c.in-ForDeclaration.is, view_statement-ForDeclaration) (rw (c.get-in-ForDeclaration.ensures, c.get-in-ForDeclaration-2.ensures) at c.for_declaration.ensures)

@@ -1,3 +1,4 @@
+use Rattle.std.proofs.Common.{false}
 use Rattle.cc_base.specs.declared.fault.Fault.TheVariants.{Refused}
 use Rattle.c_tree.specs.TypedParts.{made_by_declarator, specified_type}
 use Rattle.c_tree.specs.TypedViews.{typed_declarator_view, typed_specifiers_view}
@@ -18,6 +19,7 @@ use Rattle.c_check_expr.proofs.AcceptedLaws.{accepted}
 use Rattle.c_unit_typing.specs.Holding.{declarator_holds}
 use Rattle.c_check_expr.specs.Limited.{IsWithin}
 use Rattle.c_check_expr.proofs.LimitFacts.{declarator-within}
+use Rattle.c_typing.proofs.GrowingLaws.{grown-same}
 use Rattle.c_check_expr.proofs.calls.check_declarator.Goals as goal
 
 pub returns-clause-typed : goal.returns-clause-typed
@@ -44,3 +46,6 @@ returns-clause-limited c =
     let r = known c.declarator_behind.new.types c.declarator_behind.new.scope in
     given-ok typed_declarator_view (judge_declarator c.args.naming (typed_specifiers_view c.args.base.now) c.args.size (declarator_view c.args.d.now) s) c.declarator_behind.result r (λ v. IsWithin (declarator_holds (declarator_view c.args.d.now)) s r)
     (λ v h. declarator-within c.args.naming (typed_specifiers_view c.args.base.now) c.args.size (declarator_view c.args.d.now) v s r h) c.declarator_behind.ensures.judged
+
+pub returns-clause-grown : goal.returns-clause-grown
+returns-clause-grown c = c.declarator_behind.ensures.grows false (known c.args.types.now c.args.scope.now) (grown-same false (known c.args.types.now c.args.scope.now))

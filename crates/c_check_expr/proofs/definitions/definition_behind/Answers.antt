@@ -29,3 +29,9 @@ returns-clause-level c =
     (known c.args.types.now c.args.scope.now) (known c.judge_definition.new.types c.judge_definition.new.scope) c.naming_of-which.ensures
     (c.name_place-at.ensures ∙ ap (λ name. name_place name nowhere) c.declarator_name.ensures)
     c.in_ok-left.left.bare c.in_ok-left.left.level c.in_ok-left.ensures.tells
+
+pub returns-in_err-one-clause-grows : goal.returns-in_err-one-clause-grows
+returns-in_err-one-clause-grows c = λ any first h. c.in_err-one.ensures.grows any first (c.in_ok-left.ensures.grows any first h)
+
+pub returns-clause-grows : goal.returns-clause-grows
+returns-clause-grows c = λ any first h. c.in_ok-one.ensures.grows any first (c.in_ok-left.ensures.grows any first h)

@@ -39,7 +39,7 @@ pub expr_start-returns-in-Character : goal.expr_start-returns-in-Character
 expr_start-returns-in-Character t c = rw (c.in-Character.is, typed_expr-Character) refl
 
 pub expr_start-returns-in-Enumerator : goal.expr_start-returns-in-Enumerator
-expr_start-returns-in-Enumerator t c = rw (c.in-Enumerator.is, typed_expr-Enumerator) refl
+expr_start-returns-in-Enumerator t c = rw (c.in-Enumerator.is, typed_expr-Enumerator, c.get.ensures) refl
 
 pub expr_start-returns-in-FunctionName : goal.expr_start-returns-in-FunctionName
 expr_start-returns-in-FunctionName t c = rw (c.in-FunctionName.is, typed_expr-FunctionName) refl
@@ -51,7 +51,7 @@ pub expr_start-returns-in-Paren : goal.expr_start-returns-in-Paren
 expr_start-returns-in-Paren t c = rw (c.in-Paren.is, typed_expr-Paren) refl
 
 pub expr_start-returns-in-Read : goal.expr_start-returns-in-Read
-expr_start-returns-in-Read t c = rw (c.in-Read.is, typed_expr-Read) (rw c.get.ensures at c.place_start.ensures)
+expr_start-returns-in-Read t c = rw (c.in-Read.is, typed_expr-Read) (rw c.get-in-Read.ensures at c.place_start.ensures)
 
 pub expr_start-returns-in-Unread : goal.expr_start-returns-in-Unread
 expr_start-returns-in-Unread t c = rw (c.in-Unread.is, typed_expr-Unread) (rw c.get-in-Unread.ensures at c.place_start-in-Unread.ensures)

@@ -34,7 +34,7 @@ pub statement-returns-in-For : goal.statement-returns-in-For
 statement-returns-in-For t c = rw (c.in-For.is, typed_statement-For) (rw c.get-in-For.ensures at c.statement-in-For.ensures)
 
 pub statement-returns-in-ForDeclaration : goal.statement-returns-in-ForDeclaration
-statement-returns-in-ForDeclaration t c = rw (c.in-ForDeclaration.is, typed_statement-ForDeclaration) (tells_all _ _ _ _ _ _ c.declaration.ensures (rw c.get-in-ForDeclaration.ensures at c.statement-in-ForDeclaration.ensures))
+statement-returns-in-ForDeclaration t c = rw (c.in-ForDeclaration.is, typed_statement-ForDeclaration) (tells_all _ _ _ _ _ _ (rw c.get-in-ForDeclaration.ensures at c.declaration.ensures) (rw c.get-in-ForDeclaration-2.ensures at c.statement-in-ForDeclaration.ensures))
 
 pub statement-returns-in-Break : goal.statement-returns-in-Break
 statement-returns-in-Break t c = rw (c.in-Break.is, typed_statement-Break) (tells_skip _ _ _ c.skip-in-Break.ensures)

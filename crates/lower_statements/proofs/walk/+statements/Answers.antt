@@ -11,29 +11,29 @@ use Rattle.lower_statements.proofs.walk.+statements.Goals as goal
 use Rattle.lower_statements.proofs.walk.+statements.Goals.{block-in-Statement, block-in-Declaration, block-in-Case, block-in-Default, pieces-in-Statement, pieces-in-Declaration, pieces-in-Case, pieces-in-Default}
 
 pub statement-returns-in-If : goal.statement-returns-in-If
-statement-returns-in-If t c = rw (c.in-If.is, typed_statement-If) (grows_then _ _ _ _ _ _ _ c.expr-in-If.ensures (grows_choice _ _ _ _ _ _ _ _ _ _ _ c.choose.ensures (rw (c.get.ensures) at c.statement.ensures) c.start-then.ensures (grows_nothing _ _) c.start-otherwise.ensures))
+statement-returns-in-If t c = rw (c.in-If.is, typed_statement-If) (grows_then _ _ _ _ _ _ _ (rw c.get.ensures at c.expr-in-If.ensures) (grows_choice _ _ _ _ _ _ _ _ _ _ _ c.choose.ensures (rw c.get-in-If.ensures at c.statement.ensures) c.start-then.ensures (grows_nothing _ _) c.start-otherwise.ensures))
 
 pub statement-returns-in-IfElse : goal.statement-returns-in-IfElse
-statement-returns-in-IfElse t c = rw (c.in-IfElse.is, typed_statement-IfElse) (grows_then _ _ _ _ _ _ _ c.expr-in-IfElse.ensures (grows_choice _ _ _ _ _ _ _ _ _ _ _ c.choose-in-IfElse.ensures (rw (c.get-in-IfElse.ensures) at c.statement-in-IfElse.ensures) c.start-then-in-IfElse.ensures (rw (c.get-in-IfElse-2.ensures) at c.statement-in-IfElse-2.ensures) c.start-otherwise-in-IfElse.ensures))
+statement-returns-in-IfElse t c = rw (c.in-IfElse.is, typed_statement-IfElse) (grows_then _ _ _ _ _ _ _ (rw c.get-in-IfElse.ensures at c.expr-in-IfElse.ensures) (grows_choice _ _ _ _ _ _ _ _ _ _ _ c.choose-in-IfElse.ensures (rw c.get-in-IfElse-2.ensures at c.statement-in-IfElse.ensures) c.start-then-in-IfElse.ensures (rw c.get-in-IfElse-3.ensures at c.statement-in-IfElse-2.ensures) c.start-otherwise-in-IfElse.ensures))
 
 pub statement-returns-in-Switch : goal.statement-returns-in-Switch
 unfolding Pieces
-statement-returns-in-Switch t c = rw (c.in-Switch.is, typed_statement-Switch) (grows_where _ _ _ _ _ _ (rw c.as_slice-items.ensures at c.labels_fit.ensures) (grows_blocked _ _ _ _ _ _ c.put_block.ensures c.start-inner.ensures (grows_then _ _ _ _ _ _ _ c.expr-in-Switch.ensures (grows_then _ _ _ _ _ _ _ (rw c.as_slice-items.ensures at c.put_begin.ensures) (grows_then _ _ _ _ _ _ _ (rw (c.as_slice-items.ensures, c.switch_of.ensures) at c.put_tests.ensures) (rw c.as_slice-items.ensures at c.pieces.ensures))))))
+statement-returns-in-Switch t c = rw (c.in-Switch.is, typed_statement-Switch) (grows_where _ _ _ _ _ _ (rw c.as_slice-items.ensures at c.labels_fit.ensures) (grows_blocked _ _ _ _ _ _ c.put_block.ensures c.start-inner.ensures (grows_then _ _ _ _ _ _ _ (rw c.get-e.ensures at c.expr-in-Switch.ensures) (grows_then _ _ _ _ _ _ _ (rw (c.get-e.ensures, c.as_slice-items.ensures) at c.put_begin.ensures) (grows_then _ _ _ _ _ _ _ (rw (c.as_slice-items.ensures, c.switch_of.ensures, c.get-e.ensures) at c.put_tests.ensures) (rw c.as_slice-items.ensures at c.pieces.ensures))))))
 
 pub statement-returns-in-While : goal.statement-returns-in-While
-statement-returns-in-While t c = rw (c.in-While.is, typed_statement-While) (grows_looped _ _ _ _ _ _ c.put_loop.ensures c.start-round.ensures (grows_then _ _ _ _ _ _ _ c.test.ensures (grows_blocked _ _ _ _ _ _ c.put_block-in-While.ensures c.start-body.ensures (rw (c.in_loop.ensures, c.get-in-While.ensures) at c.statement-in-While.ensures))))
+statement-returns-in-While t c = rw (c.in-While.is, typed_statement-While) (grows_looped _ _ _ _ _ _ c.put_loop.ensures c.start-round.ensures (grows_then _ _ _ _ _ _ _ (rw c.get-in-While.ensures at c.test.ensures) (grows_blocked _ _ _ _ _ _ c.put_block-in-While.ensures c.start-body.ensures (rw (c.in_loop.ensures, c.get-in-While-2.ensures) at c.statement-in-While.ensures))))
 
 pub statement-returns-in-DoWhile : goal.statement-returns-in-DoWhile
-statement-returns-in-DoWhile t c = rw (c.in-DoWhile.is, typed_statement-DoWhile) (grows_looped _ _ _ _ _ _ c.put_loop-in-DoWhile.ensures c.start-round-in-DoWhile.ensures (grows_then _ _ _ _ _ _ _ (grows_blocked _ _ _ _ _ _ c.put_block-in-DoWhile.ensures c.start-body-in-DoWhile.ensures (rw (c.in_loop-in-DoWhile.ensures, c.get-in-DoWhile.ensures) at c.statement-in-DoWhile.ensures)) c.test-in-DoWhile.ensures))
+statement-returns-in-DoWhile t c = rw (c.in-DoWhile.is, typed_statement-DoWhile) (grows_looped _ _ _ _ _ _ c.put_loop-in-DoWhile.ensures c.start-round-in-DoWhile.ensures (grows_then _ _ _ _ _ _ _ (grows_blocked _ _ _ _ _ _ c.put_block-in-DoWhile.ensures c.start-body-in-DoWhile.ensures (rw (c.in_loop-in-DoWhile.ensures, c.get-in-DoWhile.ensures) at c.statement-in-DoWhile.ensures)) (rw c.get-in-DoWhile-2.ensures at c.test-in-DoWhile.ensures)))
 
 pub statement-returns-in-For : goal.statement-returns-in-For
 statement-returns-in-For t c = rw (c.in-For.is, typed_statement-For) (grows_then _ _ _ _ _ _ _ c.effect.ensures (grows_looped _ _ _ _ _ _ c.put_loop-in-For.ensures c.start-round-in-For.ensures (grows_then _ _ _ _ _ _ _ c.condition.ensures (grows_then _ _ _ _ _ _ _ (grows_blocked _ _ _ _ _ _ c.put_block-in-For.ensures c.start-body-in-For.ensures (rw (c.in_loop-in-For.ensures, c.get-in-For.ensures) at c.statement-in-For.ensures)) c.effect-in-For.ensures))))
 
 pub statement-returns-in-ForDeclaration : goal.statement-returns-in-ForDeclaration
-statement-returns-in-ForDeclaration t c = rw (c.in-ForDeclaration.is, typed_statement-ForDeclaration) (grows_then _ _ _ _ _ _ _ c.declaration.ensures (grows_looped _ _ _ _ _ _ c.put_loop-in-ForDeclaration.ensures c.start-round-in-ForDeclaration.ensures (grows_then _ _ _ _ _ _ _ c.condition-in-ForDeclaration.ensures (grows_then _ _ _ _ _ _ _ (grows_blocked _ _ _ _ _ _ c.put_block-in-ForDeclaration.ensures c.start-body-in-ForDeclaration.ensures (rw (c.in_loop-in-ForDeclaration.ensures, c.get-in-ForDeclaration.ensures) at c.statement-in-ForDeclaration.ensures)) c.effect-in-ForDeclaration.ensures))))
+statement-returns-in-ForDeclaration t c = rw (c.in-ForDeclaration.is, typed_statement-ForDeclaration) (grows_then _ _ _ _ _ _ _ (rw c.get-in-ForDeclaration.ensures at c.declaration.ensures) (grows_looped _ _ _ _ _ _ c.put_loop-in-ForDeclaration.ensures c.start-round-in-ForDeclaration.ensures (grows_then _ _ _ _ _ _ _ c.condition-in-ForDeclaration.ensures (grows_then _ _ _ _ _ _ _ (grows_blocked _ _ _ _ _ _ c.put_block-in-ForDeclaration.ensures c.start-body-in-ForDeclaration.ensures (rw (c.in_loop-in-ForDeclaration.ensures, c.get-in-ForDeclaration-2.ensures) at c.statement-in-ForDeclaration.ensures)) c.effect-in-ForDeclaration.ensures))))
 
 pub statement-returns-in-Some : goal.statement-returns-in-Some
-statement-returns-in-Some t c = rw (c.in-Return.is, typed_statement-Return, c.in-Some.is) (grows_then _ _ _ _ _ _ _ c.expr-in-Some.ensures c.put_return.ensures)
+statement-returns-in-Some t c = rw (c.in-Return.is, typed_statement-Return, c.in-Some.is) (grows_then _ _ _ _ _ _ _ (rw c.get-e-in-Some.ensures at c.expr-in-Some.ensures) (rw c.get-e-in-Some.ensures at c.put_return.ensures))
 
 pub block-loop-item-preserved : goal.block-loop-item-preserved
 block-loop-item-preserved t c = record {

@@ -16,25 +16,25 @@ pub statement-returns-in-Empty : goal.statement-returns-in-Empty
 statement-returns-in-Empty t c = rw (c.in-Empty.is, typed_statement-Empty) c.keep.ensures
 
 pub statement-returns-in-If : goal.statement-returns-in-If
-statement-returns-in-If t c = rw (c.in-If.is, typed_statement-If) (collects_then _ _ _ _ _ _ _ _ c.expr-in-If.ensures (rw c.get.ensures at c.statement.ensures))
+statement-returns-in-If t c = rw (c.in-If.is, typed_statement-If) (collects_then _ _ _ _ _ _ _ _ (rw c.get.ensures at c.expr-in-If.ensures) (rw c.get-in-If.ensures at c.statement.ensures))
 
 pub statement-returns-in-IfElse : goal.statement-returns-in-IfElse
-statement-returns-in-IfElse t c = rw (c.in-IfElse.is, typed_statement-IfElse) (collects_then _ _ _ _ _ _ _ _ (collects_then _ _ _ _ _ _ _ _ c.expr-in-IfElse.ensures (rw c.get-in-IfElse.ensures at c.statement-in-IfElse.ensures)) (rw c.get-in-IfElse-2.ensures at c.statement-in-IfElse-2.ensures))
+statement-returns-in-IfElse t c = rw (c.in-IfElse.is, typed_statement-IfElse) (collects_then _ _ _ _ _ _ _ _ (collects_then _ _ _ _ _ _ _ _ (rw c.get-in-IfElse.ensures at c.expr-in-IfElse.ensures) (rw c.get-in-IfElse-2.ensures at c.statement-in-IfElse.ensures)) (rw c.get-in-IfElse-3.ensures at c.statement-in-IfElse-2.ensures))
 
 pub statement-returns-in-Switch : goal.statement-returns-in-Switch
-statement-returns-in-Switch t c = rw (c.in-Switch.is, typed_statement-Switch) (collects_then _ _ _ _ _ _ _ _ c.expr-in-Switch.ensures (rw c.as_slice-in-Switch.ensures at c.block-in-Switch.ensures))
+statement-returns-in-Switch t c = rw (c.in-Switch.is, typed_statement-Switch) (collects_then _ _ _ _ _ _ _ _ (rw c.get-in-Switch.ensures at c.expr-in-Switch.ensures) (rw c.as_slice-in-Switch.ensures at c.block-in-Switch.ensures))
 
 pub statement-returns-in-While : goal.statement-returns-in-While
-statement-returns-in-While t c = rw (c.in-While.is, typed_statement-While) (collects_then _ _ _ _ _ _ _ _ c.expr-in-While.ensures (rw c.get-in-While.ensures at c.statement-in-While.ensures))
+statement-returns-in-While t c = rw (c.in-While.is, typed_statement-While) (collects_then _ _ _ _ _ _ _ _ (rw c.get-in-While.ensures at c.expr-in-While.ensures) (rw c.get-in-While-2.ensures at c.statement-in-While.ensures))
 
 pub statement-returns-in-DoWhile : goal.statement-returns-in-DoWhile
-statement-returns-in-DoWhile t c = rw (c.in-DoWhile.is, typed_statement-DoWhile) (collects_then _ _ _ _ _ _ _ _ (rw c.get-in-DoWhile.ensures at c.statement-in-DoWhile.ensures) c.expr-in-DoWhile.ensures)
+statement-returns-in-DoWhile t c = rw (c.in-DoWhile.is, typed_statement-DoWhile) (collects_then _ _ _ _ _ _ _ _ (rw c.get-in-DoWhile.ensures at c.statement-in-DoWhile.ensures) (rw c.get-in-DoWhile-2.ensures at c.expr-in-DoWhile.ensures))
 
 pub statement-returns-in-For : goal.statement-returns-in-For
 statement-returns-in-For t c = rw (c.in-For.is, typed_statement-For) (collects_then _ _ _ _ _ _ _ _ (collects_then _ _ _ _ _ _ _ _ (collects_then _ _ _ _ _ _ _ _ c.optional.ensures c.optional-in-For.ensures) c.optional-in-For-2.ensures) (rw c.get-in-For.ensures at c.statement-in-For.ensures))
 
 pub statement-returns-in-ForDeclaration : goal.statement-returns-in-ForDeclaration
-statement-returns-in-ForDeclaration t c = rw (c.in-ForDeclaration.is, typed_statement-ForDeclaration) (collects_then _ _ _ _ _ _ _ _ (collects_then _ _ _ _ _ _ _ _ (collects_then _ _ _ _ _ _ _ _ c.declaration.ensures c.optional-in-ForDeclaration.ensures) c.optional-in-ForDeclaration-2.ensures) (rw c.get-in-ForDeclaration.ensures at c.statement-in-ForDeclaration.ensures))
+statement-returns-in-ForDeclaration t c = rw (c.in-ForDeclaration.is, typed_statement-ForDeclaration) (collects_then _ _ _ _ _ _ _ _ (collects_then _ _ _ _ _ _ _ _ (collects_then _ _ _ _ _ _ _ _ (rw c.get-in-ForDeclaration.ensures at c.declaration.ensures) c.optional-in-ForDeclaration.ensures) c.optional-in-ForDeclaration-2.ensures) (rw c.get-in-ForDeclaration-2.ensures at c.statement-in-ForDeclaration.ensures))
 
 pub statement-returns-in-Break : goal.statement-returns-in-Break
 statement-returns-in-Break t c = rw (c.in-Break.is, typed_statement-Break) c.keep-in-Break.ensures

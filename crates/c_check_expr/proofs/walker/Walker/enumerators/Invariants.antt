@@ -3,6 +3,7 @@ use Rattle.c_tree.specs.Tree.{NoEnumerator}
 use Rattle.c_tree.specs.TypedTree.{NoEnumerator as none_typed}
 use Rattle.c_tree.specs.TypedViews.{typed_enumerator_view}
 use Rattle.c_tree.specs.Views.{added, enumerator_view}
+use Rattle.c_typing.specs.Growing.{Grows}
 use Rattle.c_typing.specs.Judging.{Gives, known}
 use Rattle.c_typing.specs.Typing.{last_value}
 use Rattle.c_typing.specs.Walks as walks
@@ -14,3 +15,4 @@ invariant-loop-e g l =
     (walks.judge_enumerators (added NoEnumerator (map enumerator_view (take l.e-index l.list))) (known l.fn.types l.fn.scope)
     ≡ Gives (added none_typed (map typed_enumerator_view l.found)) (known l.types l.scope))
     × (last_value (added none_typed (map typed_enumerator_view l.found)) ≡ l.last)
+    × Grows (known l.fn.types l.fn.scope) (known l.types l.scope)

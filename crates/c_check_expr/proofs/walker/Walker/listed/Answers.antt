@@ -8,13 +8,19 @@ use Rattle.c_tree.specs.TypedViews.{typed_specifier_view, typed_specifiers_of}
 use Rattle.c_tree.specs.Views.{specifier_view, specifiers_of}
 use Rattle.c_typing.specs.Judging.{known}
 use Rattle.c_typing.specs.Walks.{judge_list}
+use Rattle.c_tree.specs.Depth.{specifiers_height, specifier_height}
+use Rattle.c_check_expr.proofs.NestLaws.{nests-seen, specifiers_count}
 use Rattle.c_check_expr.proofs.SeriesLaws.{goes_on, fails_on}
 use Rattle.c_check_expr.proofs.SpecifiedLaws.{specifier_goes, specifiers_end, specifiers_stop}
 use Rattle.c_check_expr.proofs.StayLaws.{specifiers-stay}
 use Rattle.c_check_expr.proofs.walker.Walker.listed.Goals as goal
 
-pub returns-in_err-specifier : goal.returns-in_err-specifier
-returns-in_err-specifier g c =
+pub specifier-requires : goal.specifier-requires
+specifier-requires g c =
+    record { nests = nests-seen specifiers_height AndSpecifier specifier_view specifier_height specifiers_count c.args.specifiers.now c.loop-one.one-index c.one-item.result c.loop-one-test.true c.one-item.is NoSpecifier c.requires.nests }
+
+pub returns-in_err-specifier-clause-answers : goal.returns-in_err-specifier-clause-answers
+returns-in_err-specifier-clause-answers g c =
     let stopped = specifiers_stop (specifiers_of (map specifier_view c.args.specifiers.now)) c.in_err-specifier.field-0.0
     (known c.args.types.now c.args.scope.now) (known c.specifier.new.types c.specifier.new.scope)
     (fails_on judge_list AndSpecifier specifier_view specifiers-stay c.args.specifiers.now c.loop-one.one-index c.one-item.result c.loop-one-test.true c.one-item.is NoSpecifier
@@ -36,12 +42,19 @@ loop-one-preserved g c =
         first_of (grind (arith, common_steps, typed_pushes), search (rules, typed_pushes)),
         first_of (grind (arith, common_steps, typed_pushes), search (rules, typed_pushes)),
       ),
+      λ any first h. c.in_ok-specifier.ensures.grows any first (c.loop-one.invariant.2 any first h),
     )
 
-pub returns : goal.returns
-returns g c =
+pub returns-clause-answers : goal.returns-clause-answers
+returns-clause-answers g c =
     let given = specifiers_end (specifiers_of (map specifier_view c.args.specifiers.now)) (typed_specifiers_of (map typed_specifier_view c.loop-one.list))
     (known c.args.types.now c.args.scope.now) (known c.loop-one.types c.loop-one.scope)
     (ap (λ xs. judge_list (specifiers_of (map specifier_view xs)) (known c.args.types.now c.args.scope.now)) (sym (take_all c.loop-one.one-index c.args.specifiers.now c.loop-one-test.false))
     ∙ c.loop-one.invariant.0) in
     first_of (grind (arith, common_steps, typed_views), search (rules, typed_views))
+
+pub returns-in_err-specifier-clause-grows : goal.returns-in_err-specifier-clause-grows
+returns-in_err-specifier-clause-grows g c = λ any first h. c.specifier.ensures.grows any first (c.loop-one.invariant.2 any first h)
+
+pub returns-in_err-push-clause-grows : goal.returns-in_err-push-clause-grows
+returns-in_err-push-clause-grows g c = λ any first h. c.specifier.ensures.grows any first (c.loop-one.invariant.2 any first h)

@@ -2,6 +2,7 @@ use Rattle.std.proofs.Common.{◌≡◌, map, take}
 use Rattle.c_tree.specs.TypedViews.{typed_specifier_view, typed_specifiers_of}
 use Rattle.c_tree.specs.Views.{specifier_view, specifiers_of}
 use Rattle.c_typing.specs.Declarators.{counted, named_by_list}
+use Rattle.c_typing.specs.Growing.{Grows}
 use Rattle.c_typing.specs.Judging.{Gives, known}
 use Rattle.c_check_expr.specs.NamedViews.{named_view}
 use Rattle.c_typing.specs.Walks as walks
@@ -14,3 +15,4 @@ invariant-loop-one g l =
     ≡ Gives (typed_specifiers_of (map typed_specifier_view l.list)) (known l.types l.scope))
     × ((counted (typed_specifiers_of (map typed_specifier_view l.list)) ≡ l.words)
     × (named_by_list (typed_specifiers_of (map typed_specifier_view l.list)) ≡ named_view l.named))
+    × Grows (known l.fn.types l.fn.scope) (known l.types l.scope)

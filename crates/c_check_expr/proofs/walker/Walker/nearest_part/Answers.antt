@@ -1,4 +1,4 @@
-use Rattle.std.proofs.Common.{rules, IfOk, Option, ap, sym, subst, map, ◌∙◌, ◌≡◌}
+use Rattle.std.proofs.Common.{rules, IfOk, Option, ap, sym, subst, map, ◌∙◌, ◌≡◌, arith}
 use Rattle.c_tree.proofs.ViewLaws.{view_part-Function}
 use Rattle.c_tree.specs.Tree.{NoPart, Parts, Parameters, AndFunction, NoParameter}
 use Rattle.c_tree.specs.TypedTree.{NoPart as none_typed}
@@ -6,7 +6,13 @@ use Rattle.c_tree.specs.Views.{added, part_view, parameter_view}
 use Rattle.c_typing.specs.Judging.{known}
 use Rattle.c_unit_typing.specs.ParameterScopes.{level_given, parameters_written, scope_of_list}
 use Rattle.c_check_expr.proofs.StayLaws.{no_parts}
+use Rattle.c_check_expr.proofs.NestLaws.{nests-within}
 use Rattle.c_check_expr.proofs.walker.Walker.nearest_part.Goals as goal
+
+pub function_left-requires : goal.function_left-requires
+function_left-requires g c =
+    let inside = rw (c.in-Function.is, view_part-Function) at c.requires.nests in
+    record { nests = rw c.as_slice.ensures (nests-within _ _ inside (omega arith)) }
 
 pub returns-in-Function-clause-left : goal.returns-in-Function-clause-left
 returns-in-Function-clause-left g c =
@@ -18,5 +24,5 @@ returns-in-Function-clause-left g c =
 
 pub returns-in_err-one-in_default-clause-judged : goal.returns-in_err-one-in_default-clause-judged
 returns-in_err-one-in_default-clause-judged g c =
-    let stopped = c.in_err-one-in_default.ensures (known c.args.types.now c.args.scope.now) NoPart none_typed (no_parts c.args.at (known c.args.types.now c.args.scope.now)) in
+    let stopped = c.in_err-one-in_default.ensures.answers (known c.args.types.now c.args.scope.now) NoPart none_typed (no_parts c.args.at (known c.args.types.now c.args.scope.now)) in
     search rules

@@ -11,8 +11,17 @@ use Rattle.c_typing.specs.Walks.{judge_parts}
 use Rattle.c_unit_typing.specs.ParameterScopes.{level_given, parameters_written, scope_of_list}
 use Rattle.c_check_expr.specs.Leaving.{AreLeaving}
 use Rattle.c_check_expr.proofs.LeavingLaws.{first-fails, no-part-leaves, parts-leave}
+use Rattle.c_check_expr.proofs.NestLaws.{nests-behind, nests-nearest}
 use Rattle.c_check_expr.proofs.StayLaws.{no_parts}
 use Rattle.c_check_expr.proofs.walker.Walker.nearest_parts.Goals as goal
+
+pub nearest_part-requires : goal.nearest_part-requires
+nearest_part-requires g c =
+    record { nests = nests-nearest c.in-Some.first.now c.in-Some.rest.now (rw c.in-Some.ensures.cases.0 at c.requires.nests) }
+
+pub parts_behind-requires : goal.parts_behind-requires
+parts_behind-requires g c =
+    record { nests = nests-behind c.in-Some.first.now c.in-Some.rest.now (rw c.in-Some.ensures.cases.0 at c.requires.nests) }
 
 pub returns-in_default-clause-judged : goal.returns-in_default-clause-judged
 returns-in_default-clause-judged g c =
@@ -38,3 +47,9 @@ pub returns-clause-left : goal.returns-clause-left
 returns-clause-left g c =
     subst (λ (ps : List Part). AreLeaving ps c.in_ok-one.level (known c.args.types.now c.args.scope.now)) (sym c.in-Some.ensures.cases.0)
     (parts-leave c.in-Some.first.now c.in-Some.rest.now c.in_ok-one.level (known c.args.types.now c.args.scope.now) c.in_ok-one.ensures.left)
+
+pub returns-in_err-parts-clause-grows : goal.returns-in_err-parts-clause-grows
+returns-in_err-parts-clause-grows g c = λ any first h. c.parts_behind.ensures.grows any first (c.nearest_part.ensures.grows any first h)
+
+pub returns-clause-grows : goal.returns-clause-grows
+returns-clause-grows g c = λ any first h. c.parts_behind.ensures.grows any first (c.nearest_part.ensures.grows any first h)

@@ -6,12 +6,18 @@ use Rattle.c_tree.specs.TypedViews.{typed_declarator_view, typed_member_declarat
 use Rattle.c_tree.specs.Views.{declarator_view, member_declarators_of}
 use Rattle.c_typing.specs.Judging.{known}
 use Rattle.c_typing.specs.Walks.{judge_member_declarators}
+use Rattle.c_tree.specs.Depth.{member_declarators_height, declarator_height}
+use Rattle.c_check_expr.proofs.NestLaws.{nests-seen, row_counts}
 use Rattle.c_check_expr.proofs.SeriesLaws.{goes_on, fails_on}
 use Rattle.c_check_expr.proofs.StayLaws.{none_judged, row-stays}
 use Rattle.c_check_expr.proofs.walker.Walker.row.Goals as goal
 
+pub member-requires : goal.member-requires
+member-requires g c =
+    record { nests = nests-seen member_declarators_height AndDeclarator declarator_view declarator_height row_counts c.args.list.now c.loop-d.d-index c.d-item.result c.loop-d-test.true c.d-item.is NoDeclarator c.requires.nests }
+
 pub loop-d-init : goal.loop-d-init
-loop-d-init g c = (first_of (grind (arith, common_steps, none_judged), search (rules, none_judged)), first_of (grind (arith, common_steps), search rules))
+loop-d-init g c = (first_of (grind (arith, common_steps, none_judged), search (rules, none_judged)), first_of (grind (arith, common_steps), search rules), search rules)
 
 pub returns-in_err-member-clause-answers : goal.returns-in_err-member-clause-answers
 returns-in_err-member-clause-answers g c =
@@ -29,4 +35,10 @@ loop-d-preserved g c =
     (c.in_ok-member.ensures.answers (known c.args.types.now c.args.scope.now) c.args.names.now (member_declarators_of (map declarator_view (take c.loop-d.d-index c.args.list.now)))
     (typed_member_declarators_of (map typed_declarator_view c.loop-d.found)) (sym c.loop-d.invariant.1) c.loop-d.invariant.0) in
     let named = c.in_ok-member.ensures.named in
-    (first_of (grind (arith, common_steps, typed_pushes), search (rules, typed_pushes)), first_of (grind (arith, common_steps, typed_pushes), search (rules, typed_pushes)))
+    (first_of (grind (arith, common_steps, typed_pushes), search (rules, typed_pushes)), first_of (grind (arith, common_steps, typed_pushes), search (rules, typed_pushes)), λ any first h. c.in_ok-member.ensures.grows any first (c.loop-d.invariant.2 any first h))
+
+pub returns-in_err-member-clause-grows : goal.returns-in_err-member-clause-grows
+returns-in_err-member-clause-grows g c = λ any first h. c.member.ensures.grows any first (c.loop-d.invariant.2 any first h)
+
+pub returns-in_err-push-clause-grows : goal.returns-in_err-push-clause-grows
+returns-in_err-push-clause-grows g c = λ any first h. c.member.ensures.grows any first (c.loop-d.invariant.2 any first h)

@@ -6,7 +6,15 @@ use Rattle.c_tree.specs.Views.{specifier_view}
 use Rattle.c_typing.specs.Judging.{known}
 use Rattle.c_typing.specs.Walks.{judge_specifier}
 use Rattle.c_check_expr.proofs.OutcomeLaws.{answers-moved}
+use Rattle.c_tree.proofs.ViewLaws.{view_specifier-Aggregate, view_specifier-Enumeration}
 use Rattle.c_check_expr.proofs.walker.Walker.specifier.Goals as goal
+
+pub aggregate-requires : goal.aggregate-requires
+aggregate-requires g c = record { nests = rw c.as_slice.ensures (rw (c.in-Aggregate.is, view_specifier-Aggregate) at c.requires.nests) }
+
+pub enumeration-requires : goal.enumeration-requires
+enumeration-requires g c =
+    record { nests = rw c.as_slice-in-Enumeration.ensures (rw (c.in-Enumeration.is, view_specifier-Enumeration) at c.requires.nests) }
 
 pub returns-in-Aggregate-clause-answers : goal.returns-in-Aggregate-clause-answers
 returns-in-Aggregate-clause-answers g c =

@@ -1,27 +1,24 @@
-use Rattle.std.proofs.Common.{◌≡◌, ap, ◌∙◌, ◌-◌, ◌<◌, length, get_or, slice_set, map, arith}
-use Rattle.c_typing.specs.Scopes.{with_name}
-use Rattle.c_typing.proofs.ScopeLaws.{seen_of, here-last, changed-last, on_ok}
+use Rattle.std.proofs.Common.{ap, sym, ◌∙◌, ◌<◌, ◌∷◌, length, map, arith}
+use Rattle.c_typing.specs.Scopes.{at_innermost, entry_of, here, with_name}
+use Rattle.c_typing.proofs.ScopeLaws.{at-inner, inner-changed, innermost-inner, on_ok}
 use Rattle.c_typing.proofs.scope.Scope.declare.Goals as goal
 
 pub declare-requires-2 : goal.declare-requires-2
 declare-requires-2 c =
-    let e : c.len-count.result ≡ length c.self.inside.inner.items = c.len-count.ensures ∙ c.self.inside.inner.ok.0 in
-    let last : c.index_mut.result.now ≡ get_or c.self.inside.inner.items (length c.self.inside.inner.items - 1) c.index_mut.result.now =
-    c.index_mut.ensures.value ∙ ap (λ n. get_or c.self.inside.inner.items (n - 1) c.index_mut.result.now) e in
-    here-last c.self.inside.file c.self.inside.inner.items (map (λ k. k.items) c.self.inside.defined.keys) c.self.inside.members.items
-    c.self.inside.next_node c.self.inside.globals c.self.inside.cells c.args.self.now c.args.name.now c.index_mut.result.now c.self.view_is
-    (let t = c.if-count-eq0.false in omega (arith, e, t)) last c.requires
+    let s = c.self.inside in
+    let some : 0 < length s.inner = let t = c.if-len-eq0.false in let e = c.len.ensures.count in omega (arith, e, t) in
+    record {
+      some = some;
+      fresh = ap (λ l. entry_of l.names c.args.name.now) (sym (innermost-inner s.file s.inner some))
+          ∙ ap (λ t. here t.scopes.levels c.args.name.now) c.self.view_is ∙ c.requires;
+    }
 
 pub returns-clause-declared : goal.returns-clause-declared
 returns-clause-declared c =
-    let e : c.len-count.result ≡ length c.self.inside.inner.items = c.len-count.ensures ∙ c.self.inside.inner.ok.0 in
-    let last : c.index_mut.result.now ≡ get_or c.self.inside.inner.items (length c.self.inside.inner.items - 1) c.index_mut.result.now =
-    c.index_mut.ensures.value ∙ ap (λ n. get_or c.self.inside.inner.items (n - 1) c.index_mut.result.now) e in
-    let some : 0 < length c.self.inside.inner.items = let t = c.if-count-eq0.false in omega (arith, e, t) in
+    let s = c.self.inside in
+    let some : 0 < length s.inner = let t = c.if-len-eq0.false in let e = c.len.ensures.count in omega (arith, e, t) in
     on_ok _ _ c.declare-2.result (λ new.
-    ap (λ n. seen_of c.self.inside.file (slice_set c.self.inside.inner.items (n - 1) c.declare-2.new.self) (map (λ k. k.items) c.self.inside.defined.keys) c.self.inside.members.items
-    c.self.inside.next_node c.self.inside.globals c.self.inside.cells) e
-    ∙ changed-last (with_name c.args.name.now c.args.what) c.self.inside.file c.self.inside.inner.items (map (λ k. k.items) c.self.inside.defined.keys) c.self.inside.members.items
-    c.self.inside.next_node c.self.inside.globals c.self.inside.cells c.args.self.now c.index_mut.result.now c.declare-2.new.self
-    c.self.view_is some last new)
+    inner-changed (at_innermost (with_name c.args.name.now c.args.what)) s.file s.inner c.declare-2.new.self (map (λ k. k.items) s.defined.keys) s.members.items
+    s.next_node s.globals s.cells c.args.self.now c.self.view_is
+    (at-inner (with_name c.args.name.now c.args.what) s.file s.inner some ∙ ap (λ ls. s.file ∷ ls) (sym new)))
     c.declare-2.ensures.declared

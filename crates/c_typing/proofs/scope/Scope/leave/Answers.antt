@@ -1,9 +1,13 @@
-use Rattle.std.proofs.Common.{ap, ◌∙◌, ◌-◌, take, map}
-use Rattle.c_typing.proofs.ScopeLaws.{left}
+use Rattle.std.proofs.Common.{ap, sym, ◌∙◌, ◌∷◌, map}
+use Rattle.c_typing.specs.Scopes.{without_innermost}
+use Rattle.c_typing.proofs.ScopeLaws.{inner-changed, some-inner, without-inner}
 use Rattle.c_typing.proofs.scope.Scope.leave.Goals as goal
 
 pub returns : goal.returns
 returns c =
-    left c.self.inside.file c.self.inside.inner.items c.truncate.new.self.items (map (λ k. k.items) c.self.inside.defined.keys) c.self.inside.members.items
-    c.self.inside.next_node c.self.inside.globals c.self.inside.cells c.args.self.now c.self.view_is
-    (c.truncate.ensures.items ∙ ap (λ n. take (n - 1) c.self.inside.inner.items) (c.len-last.ensures ∙ c.self.inside.inner.ok.0)) c.requires
+    let s = c.self.inside in
+    let some = some-inner s.file s.inner (map
+    (λ k. k.items) s.defined.keys) s.members.items s.next_node s.globals s.cells c.args.self.now c.self.view_is c.requires in
+    inner-changed without_innermost s.file s.inner c.leave.new.self (map
+    (λ k. k.items) s.defined.keys) s.members.items s.next_node s.globals s.cells c.args.self.now
+    c.self.view_is (without-inner s.file s.inner some ∙ ap (λ ls. s.file ∷ ls) (sym c.leave.ensures.left))

@@ -1,17 +1,22 @@
-use Rattle.std.proofs.Common.{ap, ◌∙◌, ◌-◌, take, map, get_or, Some, arith}
-use Rattle.c_typing.proofs.ScopeLaws.{left, innermost-popped}
+use Rattle.std.proofs.Common.{ap, sym, ◌∙◌, ◌∷◌, map, Some}
+use Rattle.c_typing.specs.Scopes.{innermost, without_innermost}
+use Rattle.c_typing.proofs.ScopeLaws.{inner-changed, innermost-inner, some-inner, without-inner}
 use Rattle.c_typing.proofs.scope.Scope.take_innermost.Goals as goal
 
 pub returns-clause-left : goal.returns-clause-left
 returns-clause-left c =
-    left c.self.inside.file c.self.inside.inner.items c.pop.new.self.items (map (λ k. k.items) c.self.inside.defined.keys) c.self.inside.members.items
-    c.self.inside.next_node c.self.inside.globals c.self.inside.cells c.args.self.now c.self.view_is
-    (c.pop.ensures.rest ∙ ap (λ n. take (n - 1) c.self.inside.inner.items) c.self.inside.inner.ok.0) c.requires
+    let s = c.self.inside in
+    let some = some-inner s.file s.inner (map
+    (λ k. k.items) s.defined.keys) s.members.items s.next_node s.globals s.cells c.args.self.now c.self.view_is c.requires in
+    inner-changed without_innermost s.file s.inner c.leave.new.self (map
+    (λ k. k.items) s.defined.keys) s.members.items s.next_node s.globals s.cells c.args.self.now
+    c.self.view_is (without-inner s.file s.inner some ∙ ap (λ ls. s.file ∷ ls) (sym c.leave.ensures.left))
 
 pub returns-clause-level : goal.returns-clause-level
 returns-clause-level c =
-    let last = innermost-popped c.self.inside.file c.self.inside.inner.items (map (λ k. k.items) c.self.inside.defined.keys) c.self.inside.members.items
-    c.self.inside.next_node c.self.inside.globals c.self.inside.cells c.args.self.now c.self.view_is c.requires in
-    c.pop.ensures.value c.self.inside.file (omega (arith, last.0, c.self.inside.inner.ok.0))
-    ∙ ap (λ n. Some (get_or c.self.inside.inner.items (n - 1) c.self.inside.file)) c.self.inside.inner.ok.0
-    ∙ ap (λ l. Some l) last.1
+    let s = c.self.inside in
+    let some = some-inner s.file s.inner (map
+    (λ k. k.items) s.defined.keys) s.members.items s.next_node s.globals s.cells c.args.self.now c.self.view_is c.requires in
+    c.leave.ensures.level some
+    ∙ ap (λ l. Some l) (sym (innermost-inner s.file s.inner some))
+    ∙ ap (λ t. Some (innermost t.scopes.levels)) c.self.view_is

@@ -4,16 +4,13 @@ pub mod RowLaws
 pub mod LookupLaws
 pub mod ReachedLaws
 pub mod LeavingLaws
-pub mod NestLaws
 pub mod KeptLaws
 pub mod CallLaws
-pub mod ControlLaws
 pub mod SizeLaws
 pub mod GrowLaws
 pub mod LoadLaws
 pub mod SlotLaws
 pub mod RunningLaws
-pub mod FormLaws
 pub mod RoomLaws
 pub mod StepLaws
 pub mod OutsideLaws
@@ -26,3 +23,7 @@ pub mod GivingLaws
 pub mod ReturnLaws
 pub mod OuterLaws
 pub mod BeginLaws
+pub mod PositionLaws
+pub mod LayingSizes
+pub mod LayingLaws
+pub mod WaitingLaws

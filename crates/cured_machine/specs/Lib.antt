@@ -1,7 +1,6 @@
 pub mod Stack
 pub mod Rows
 pub mod Spelled
-pub mod Nests
 pub mod Kept
 pub mod Sizes
 pub mod Ready
@@ -11,3 +10,6 @@ pub mod Reading
 pub mod Running
 pub mod Steps
 pub mod Outer
+pub mod Positions
+pub mod Operations
+pub mod Laying

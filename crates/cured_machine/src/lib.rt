@@ -2,14 +2,14 @@
 #![tactic(auto)]
 
 mod calls;
-mod control;
 mod ending;
 mod in_frame;
+mod laying;
 mod loading;
 mod lookups;
 mod machine;
 mod making;
-mod nesting;
+mod operation;
 mod reading;
 mod row;
 mod running;

@@ -1,13 +1,15 @@
 //! Frames, functions, type nodes and blocks.
-ghost use Rattle.std.specs.Prelude.{◌≡◌, ◌<◌, ◌+◌, ◌^◌, ℕ, length, map, slice_get, Some, None, if◌then◌else◌};
+ghost use Rattle.std.specs.Prelude.{false, ◌≡◌, ◌<◌, ◌+◌, ◌^◌, ℕ, length, map, slice_get, Some, None, if◌then◌else◌};
 ghost use Rattle.cured_code.specs.declared.parts.Parts.{Parts};
 ghost use Rattle.flat_mem.specs.declared.Area.{Area};
 ghost use Rattle.cured_code.specs.Groups.{Lookups};
 ghost use Rattle.cured_code.specs.Tables.{function_at, is_below, parent_of, sig_word, frame_fits, has_room};
 ghost use Rattle.flat_mem.specs.Memory.{Memory, block_fits, block_address, block_made};
 ghost use Rattle.cured_machine.specs.Ready.{frame_areas};
-ghost use Rattle.cured_machine.specs.Rows.{IsNamed, IsLookupRow, areas_in, sig_word_in, has_room_in, function_of_sig};
+ghost use Rattle.cured_machine.specs.Operations.{instr_of, is_laid, own_group};
+ghost use Rattle.cured_machine.specs.Rows.{IsNamed, IsLookupRow, IsMemoryRow, areas_in, sig_word_in, has_room_in, function_of_sig};
 
+use crate::operation::Operation;
 use crate::row::Row;
 use crate::tests_and_divisions::truth;
 use cured_code::{Function, Instr, Parts};
@@ -139,38 +141,25 @@ fn has_room(functions: &[Function], frames: &[FramePlan], flat: &Flat, address: 
     }
 }
 
-/// Instructions that look something up in the program or in the frames, or make a block.
+/// The addresses of a frame's areas, and the depths of addresses.
 #[inline(always)]
-pub(crate) fn act_lookups(
-    instr: &Instr,
-    parts: &Parts,
-    frames: &[FramePlan],
-    flat: &mut Flat,
-    frame: &mut [u64],
-) -> Row
-    requires named { IsNamed instr.now (length frame.old) (areas_in flat.old) }
-    requires limit { flat.old.bounds.heap_limit < 2 ^ 64 }
-    requires areas { frames.now ≡ map frame_areas parts.now.functions }
-    ensures { IsLookupRow parts.now instr.now flat.old flat.new frame.old frame.new result }
+pub(crate) fn act_places(operation: &Operation, flat: &Flat, frame: &mut [u64]) -> Row
+    requires { IsNamed (instr_of operation.now) (length frame.old) (areas_in flat.now) }
+    ensures { IsMemoryRow (own_group operation.now ≡ Lookups)
+        (instr_of operation.now) flat.now flat.now frame.old frame.new result }
 {
-    match *instr {
-        Instr::Frame(v, k) => {
-            frame[v as usize] = flat.frame_area(k as usize);
-            Row::Done
-        }
-        Instr::Depth(v, a) => {
-            frame[v as usize] = flat.depth_of(frame[a as usize]);
-            Row::Done
-        }
-        Instr::Below(_, _, _) | Instr::Sigof(_, _) | Instr::Room(_, _) | Instr::New(_, _, _, _) =>
-            act_by_search(instr, parts, frames, flat, frame),
-        _ => Row::Other,
+    match *operation {
+        Operation::Frame(v, k) => frame[v as usize] = flat.frame_area(k as usize),
+        Operation::Depth(v, a) => frame[v as usize] = flat.depth_of(frame[a as usize]),
+        _ => return Row::Other,
     }
+    Row::Done
 }
 
-/// The same. It's a function of its own so that the loop's code stays small.
+/// Instructions that look something up in the program, or make a block. It's a function of its own so that the loop's code
+/// stays small.
 #[inline(never)]
-fn act_by_search(
+pub(crate) fn act_by_search(
     instr: &Instr,
     parts: &Parts,
     frames: &[FramePlan],
@@ -179,12 +168,11 @@ fn act_by_search(
 ) -> Row
     requires named { IsNamed instr.now (length frame.old) (areas_in flat.old) }
     requires limit { flat.old.bounds.heap_limit < 2 ^ 64 }
+    requires whole { is_laid instr.now ≡ false }
     requires areas { frames.now ≡ map frame_areas parts.now.functions }
     ensures { IsLookupRow parts.now instr.now flat.old flat.new frame.old frame.new result }
 {
     match *instr {
-        Instr::Frame(v, k) => frame[v as usize] = flat.frame_area(k as usize),
-        Instr::Depth(v, a) => frame[v as usize] = flat.depth_of(frame[a as usize]),
         Instr::Below(v, a, n) => {
             let nodes = &parts.nodes;
             frame[v as usize] = truth(is_node_below(&nodes.0, frame[a as usize], n));

@@ -1,6 +1,6 @@
 //! Instructions on tagged areas.
 ghost use Rattle.std.specs.Prelude.{◌≡◌, ℕ, length};
-ghost use Rattle.cured_code.specs.Groups.{Tags};
+ghost use Rattle.cured_code.specs.Groups.{Tags, group};
 ghost use Rattle.cured_machine.specs.Rows.{IsNamed, IsMemoryRow, areas_in};
 
 use crate::row::Row;
@@ -13,7 +13,8 @@ use flat_mem::Flat;
 #[inline(always)]
 pub(crate) fn act_tags(instr: &Instr, flat: &mut Flat, frame: &mut [u64]) -> Row
     requires { IsNamed instr.now (length frame.old) (areas_in flat.old) }
-    ensures { IsMemoryRow Tags instr.now flat.old flat.new frame.old frame.new result }
+    ensures { IsMemoryRow (group instr.now ≡ Tags) instr.now flat.old flat.new frame.old frame.new
+        result }
 {
     match *instr {
         Instr::Plain(_, _, _, _)
@@ -31,7 +32,8 @@ pub(crate) fn act_tags(instr: &Instr, flat: &mut Flat, frame: &mut [u64]) -> Row
 #[inline(never)]
 fn act_on_tags(instr: &Instr, flat: &mut Flat, frame: &mut [u64]) -> Row
     requires { IsNamed instr.now (length frame.old) (areas_in flat.old) }
-    ensures { IsMemoryRow Tags instr.now flat.old flat.new frame.old frame.new result }
+    ensures { IsMemoryRow (group instr.now ≡ Tags) instr.now flat.old flat.new frame.old frame.new
+        result }
 {
     match *instr {
         Instr::Plain(v, a, b, n) => {

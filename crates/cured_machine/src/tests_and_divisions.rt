@@ -3,10 +3,11 @@ ghost use Rattle.std.specs.Prelude.{◌≡◌, ℕ, IsTrue, length};
 ghost use Rattle.integers.specs.Words.{truth_word};
 ghost use Rattle.integers.specs.Operators.{can_divide_signed, quotient_signed, remainder_signed, less_signed};
 ghost use Rattle.cured_code.specs.Groups.{Tests};
+ghost use Rattle.cured_machine.specs.Operations.{instr_of, own_group};
 ghost use Rattle.cured_machine.specs.Rows.{IsNamed, IsSlotRow};
 
+use crate::operation::Operation;
 use crate::row::Row;
-use cured_code::Instr;
 
 /// The word of a truth value.
 #[inline(always)]
@@ -47,43 +48,44 @@ fn rest_signed(a: u64, b: u64) -> u64
 }
 
 #[inline(always)]
-pub(crate) fn act_tests(instr: &Instr, frame: &mut [u64]) -> Row
-    requires { (areas : ℕ) × IsNamed instr.now (length frame.old) areas }
-    ensures { IsSlotRow Tests instr.now frame.old frame.new result }
+pub(crate) fn act_tests(operation: &Operation, frame: &mut [u64]) -> Row
+    requires { (areas : ℕ) × IsNamed (instr_of operation.now) (length frame.old) areas }
+    ensures { IsSlotRow (own_group operation.now ≡ Tests)
+        (instr_of operation.now) frame.old frame.new result }
 {
-    match *instr {
-        Instr::Divu(v, a, b) => {
+    match *operation {
+        Operation::Divu(v, a, b) => {
             let divisor = frame[b as usize];
             if divisor == 0 {
                 return Row::Trapped;
             }
             frame[v as usize] = frame[a as usize] / divisor;
         }
-        Instr::Remu(v, a, b) => {
+        Operation::Remu(v, a, b) => {
             let divisor = frame[b as usize];
             if divisor == 0 {
                 return Row::Trapped;
             }
             frame[v as usize] = frame[a as usize] % divisor;
         }
-        Instr::Divs(v, a, b) => {
+        Operation::Divs(v, a, b) => {
             let (dividend, divisor) = (frame[a as usize], frame[b as usize]);
             if !has_quotient(dividend, divisor) {
                 return Row::Trapped;
             }
             frame[v as usize] = divide_signed(dividend, divisor);
         }
-        Instr::Rems(v, a, b) => {
+        Operation::Rems(v, a, b) => {
             let (dividend, divisor) = (frame[a as usize], frame[b as usize]);
             if !has_quotient(dividend, divisor) {
                 return Row::Trapped;
             }
             frame[v as usize] = rest_signed(dividend, divisor);
         }
-        Instr::Eq(v, a, b) => frame[v as usize] = truth(frame[a as usize] == frame[b as usize]),
-        Instr::Ne(v, a, b) => frame[v as usize] = truth(frame[a as usize] != frame[b as usize]),
-        Instr::Ltu(v, a, b) => frame[v as usize] = truth(frame[a as usize] < frame[b as usize]),
-        Instr::Lts(v, a, b) => frame[v as usize] = is_less_signed(
+        Operation::Eq(v, a, b) => frame[v as usize] = truth(frame[a as usize] == frame[b as usize]),
+        Operation::Ne(v, a, b) => frame[v as usize] = truth(frame[a as usize] != frame[b as usize]),
+        Operation::Ltu(v, a, b) => frame[v as usize] = truth(frame[a as usize] < frame[b as usize]),
+        Operation::Lts(v, a, b) => frame[v as usize] = is_less_signed(
             frame[a as usize],
             frame[b as usize],
         ),

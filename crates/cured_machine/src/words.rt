@@ -3,10 +3,12 @@ ghost use Rattle.std.specs.Prelude.{◌%◌, ◌^◌, ◌≡◌, ℕ, length};
 ghost use Rattle.integers.specs.Operators.{sum_words, difference_words, product_words, shifted_left, shifted_right, shifted_signed};
 ghost use Rattle.cured_code.specs.FlatMachine.{narrowed};
 ghost use Rattle.cured_code.specs.Groups.{Words};
+ghost use Rattle.cured_machine.specs.Operations.{instr_of, own_group};
 ghost use Rattle.cured_machine.specs.Rows.{IsNamed, IsSlotRow};
 
+use crate::operation::Operation;
 use crate::row::Row;
-use cured_code::{Instr, Narrow};
+use cured_code::Narrow;
 
 #[inline(always)]
 fn sum(a: u64, b: u64) -> u64
@@ -88,26 +90,36 @@ fn narrow(a: u64, form: Narrow) -> u64
 }
 
 #[inline(always)]
-pub(crate) fn act_words(instr: &Instr, frame: &mut [u64]) -> Row
-    requires { (areas : ℕ) × IsNamed instr.now (length frame.old) areas }
-    ensures { IsSlotRow Words instr.now frame.old frame.new result }
+pub(crate) fn act_words(operation: &Operation, frame: &mut [u64]) -> Row
+    requires { (areas : ℕ) × IsNamed (instr_of operation.now) (length frame.old) areas }
+    ensures { IsSlotRow (own_group operation.now ≡ Words)
+        (instr_of operation.now) frame.old frame.new result }
 {
-    match *instr {
-        Instr::Const(v, n) => frame[v as usize] = n,
-        Instr::Copy(v, a) => frame[v as usize] = frame[a as usize],
-        Instr::Ext(v, a, form) => frame[v as usize] = narrow(frame[a as usize], form),
-        Instr::Add(v, a, b) => frame[v as usize] = sum(frame[a as usize], frame[b as usize]),
-        Instr::Sub(v, a, b) => frame[v as usize] = difference(frame[a as usize], frame[b as usize]),
-        Instr::Mul(v, a, b) => frame[v as usize] = product(frame[a as usize], frame[b as usize]),
-        Instr::And(v, a, b) => frame[v as usize] = frame[a as usize] & frame[b as usize],
-        Instr::Or(v, a, b) => frame[v as usize] = frame[a as usize] | frame[b as usize],
-        Instr::Xor(v, a, b) => frame[v as usize] = frame[a as usize] ^ frame[b as usize],
-        Instr::Shl(v, a, b) => frame[v as usize] = shift_left(frame[a as usize], frame[b as usize]),
-        Instr::Shr(v, a, b) => frame[v as usize] = shift_right(
+    match *operation {
+        Operation::Const(v, n) => frame[v as usize] = n,
+        Operation::Copy(v, a) => frame[v as usize] = frame[a as usize],
+        Operation::Ext(v, a, form) => frame[v as usize] = narrow(frame[a as usize], form),
+        Operation::Add(v, a, b) => frame[v as usize] = sum(frame[a as usize], frame[b as usize]),
+        Operation::Sub(v, a, b) => frame[v as usize] = difference(
             frame[a as usize],
             frame[b as usize],
         ),
-        Instr::Sar(v, a, b) => frame[v as usize] = shift_signed(
+        Operation::Mul(v, a, b) => frame[v as usize] = product(
+            frame[a as usize],
+            frame[b as usize],
+        ),
+        Operation::And(v, a, b) => frame[v as usize] = frame[a as usize] & frame[b as usize],
+        Operation::Or(v, a, b) => frame[v as usize] = frame[a as usize] | frame[b as usize],
+        Operation::Xor(v, a, b) => frame[v as usize] = frame[a as usize] ^ frame[b as usize],
+        Operation::Shl(v, a, b) => frame[v as usize] = shift_left(
+            frame[a as usize],
+            frame[b as usize],
+        ),
+        Operation::Shr(v, a, b) => frame[v as usize] = shift_right(
+            frame[a as usize],
+            frame[b as usize],
+        ),
+        Operation::Sar(v, a, b) => frame[v as usize] = shift_signed(
             frame[a as usize],
             frame[b as usize],
         ),

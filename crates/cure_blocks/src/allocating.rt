@@ -168,7 +168,7 @@ fn holds_pointer(out: &mut Draft, known: &Known<'_>, t: TypeId, count: u32) -> b
         (IsTypeIn known.now t) out.old out.new }
 {
     if t.0 < count {
-        return known.layout(t).holds;
+        return known.holds_pointer(t);
     }
     refuse(out);
     false

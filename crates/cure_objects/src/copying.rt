@@ -1,5 +1,5 @@
 //! The cured code that copies structs and unions.
-ghost use Rattle.std.specs.Prelude.{◌≡◌, ◌≤◌, IfSome, IfNone, true, [], ◌∷◌};
+ghost use Rattle.std.specs.Prelude.{◌≡◌, ◌≤◌, IfOk, IfSome, IfNone, true, [], ◌∷◌};
 ghost use Rattle.std.specs.List.{All};
 ghost use Rattle.c_types.specs.Cells.{IsBetweenPointers};
 ghost use Rattle.c_types.specs.Equality.{cells_of};
@@ -13,15 +13,16 @@ ghost use Rattle.cil_form.specs.declared.instr.Target.TheVariants as target;
 ghost use Rattle.cure_rules.specs.Accesses.{plain_copied};
 ghost use Rattle.cure_rules.specs.Pointing.{cured_offset};
 ghost use Rattle.cure_scope.specs.Scopes.{whole_of, world_of};
+ghost use Rattle.phys_types.specs.Lending.{lent_layout};
 ghost use Rattle.cure_objects.specs.Cured.{ObjectCured};
 ghost use Rattle.cure_objects.specs.Starts.{IsSpotOf, TellsPointers};
 ghost use Rattle.cure_objects.specs.Copies.{AreCopied, CanCopy, CanCopyPart, HolderCopied, IsTyped, IsWild, ItemKept, PointerKept, SpotsCopied, SpotsKept, StructCopied, tags_copied};
 
 use crate::parts::{Part, part_offset, put_part};
 use c_types::Types;
-use cc_base::{Kind, NodeId, Place, TypeId};
+use cc_base::{Kind, NoMemory, NodeId, Place, TypeId};
 use check_forms::{Op, PointerSlots};
-use check_insert::{Draft, keep, put, refuse};
+use check_insert::{Draft, fail, keep, put, refuse};
 use cil_form::Temp;
 use cure_instrs::{
     Reached, cured_size, home_slot, put_two, put_words_loaded, size_at, source_size, wild_numbers,
@@ -30,7 +31,7 @@ use cure_scope::{
     ADDRESS, BASE, MADE, NOUGHT, OFFSET, Scope, WORD, column, pointer_slots, put_guarded,
 };
 use cured_code::Instr;
-use phys_types::{Item, Known, Layout, Spot};
+use phys_types::{Item, Known, Layout, Lent, Spot};
 
 /// Where the checks of a copy stand: those of its source and of its target, and ESCAPE.
 #[derive(Clone, Copy)]
@@ -229,16 +230,21 @@ fn put_struct(out: &mut Draft, k: &Scope<'_>, c: Struct, layout: &Layout, at: Co
 }
 
 /// The layout of a type.
-fn layout_in<'a>(known: &'a Known<'_>, t: TypeId, types: &Types) -> Option<&'a Layout>
+fn layout_in<'a>(
+    known: &'a Known<'_>,
+    t: TypeId,
+    types: &Types,
+) -> Result<Option<Lent<'a>>, NoMemory>
     requires { types.now ≡ known.now }
-    ensures there { IfSome result (λ layout. TellsPointers known.now t layout.now) }
-    ensures none { IfNone result (IsType known.now t → ⊥) }
+    ensures there { IfOk result (λ found. IfSome found (λ lent. TellsPointers known.now t
+        (lent_layout lent))) }
+    ensures none { IfOk result (λ found. IfNone found (IsType known.now t → ⊥)) }
 {
     let count = types.count();
     if t.0 < count {
-        Some(known.layout(t))
+        Ok(Some(known.layout(t)?))
     } else {
-        None
+        Ok(None)
     }
 }
 
@@ -258,7 +264,7 @@ pub fn put_pointer_copy(
 {
     let (pointer, node) = to;
     match layout_in(known, from.ty, k.layouts.types()) {
-        Some(layout) => {
+        Ok(Some(lent)) => {
             let c = Struct {
                 ty: from.ty,
                 from: k.kind_of(from.node),
@@ -266,9 +272,10 @@ pub fn put_pointer_copy(
                 to: k.kind_of(node),
                 target: pointer_slots(column(pointer)),
             };
-            put_struct(out, k, c, layout, at)
+            put_struct(out, k, c, lent.layout(), at)
         }
-        None => refuse(out),
+        Ok(None) => refuse(out),
+        Err(_) => fail(out),
     }
 }
 
@@ -289,7 +296,7 @@ pub fn put_part_copy(
 {
     let kind = k.kind_of(to.home);
     match layout_in(known, from.ty, k.layouts.types()) {
-        Some(layout) => match part_offset(k, kind, to.ty, to.offset) {
+        Ok(Some(lent)) => match part_offset(k, kind, to.ty, to.offset) {
             Some(n) => {
                 let target = PointerSlots {
                     first: ADDRESS,
@@ -304,10 +311,11 @@ pub fn put_part_copy(
                     target,
                 };
                 put_part(out, k, kind, to.object, n);
-                put_struct(out, k, c, layout, at)
+                put_struct(out, k, c, lent.layout(), at)
             }
             None => refuse(out),
         },
-        None => refuse(out),
+        Ok(None) => refuse(out),
+        Err(_) => fail(out),
     }
 }

@@ -1,15 +1,16 @@
--- What the cured layout of a type says of the widths of its cells.
-use Rattle.std.proofs.Common.{◌≡◌, ℕ, ◌+◌, ◌-◌, ◌<◌, ◌≤◌, ◌⊎◌, inl, inr, zero, suc, List, length, slice_get, Some, refl, ap, sym, subst, ◌∙◌, arith, ◌++◌, [], ◌∷◌, true≢false}
+-- What the stops of a part say of the widths of its cells, and the parts that are kept.
+use Rattle.std.proofs.Common.{◌≡◌, ℕ, ◌+◌, ◌-◌, ◌*◌, ◌<◌, ◌≤◌, ◌⊎◌, inl, inr, zero, suc, List, length, slice_get, Some, refl, ap, sym, subst, ◌∙◌, arith, ◌++◌, [], ◌∷◌, true≢false}
 use Rattle.std.specs.Prelude.{slice_index_or}
-use Rattle.std.specs.List.{All}
+use Rattle.std.specs.List.{All, repeat}
 use Rattle.std.specs.List.Sorted.{IsNonDecreasingBy}
 use Rattle.std.proofs.lemmas.Option.{slice_get_past}
 use Rattle.std.proofs.lemmas.List.{get_or_past, length-append}
+use Rattle.cc_base.specs.declared.number.NodeId.{NodeId}
 use Rattle.cc_base.specs.declared.number.TypeId.{TypeId}
 use Rattle.cc_base.specs.declared.kind.Kind.{Kind}
 use Rattle.c_types.specs.Table.{Table, Entry, IsType, IsComplete, AreNodesOf, shape_at, void_entry, is_complete}
 use Rattle.c_types.specs.Layouts.{size_of}
-use Rattle.c_types.specs.Cells.{Cell, IsBetweenPointers}
+use Rattle.c_types.specs.Cells.{IsBetweenPointers}
 use Rattle.c_types.specs.Equality.{cells_of, physically_equal}
 use Rattle.cc_base.specs.Kinds.{kind_at}
 use Rattle.c_types.specs.Widths.{before, cured_size}
@@ -17,15 +18,15 @@ use Rattle.c_types.specs.Sound.{IsWellFormed}
 use Rattle.c_types.proofs.Cells.{length_cells}
 use Rattle.phys_types.specs.declared.spot.Layout.{Layout}
 use Rattle.phys_types.specs.declared.spot.Spot.{Spot}
-use Rattle.phys_types.specs.Spots.{cells_from}
-use Rattle.phys_types.specs.Shown.{IsLayoutOf}
-use Rattle.phys_types.proofs.Spreading.{length_all}
-use Rattle.phys_types.proofs.Parts.{layout_low}
+use Rattle.phys_types.specs.declared.keeping.Repeated.{Repeated}
+use Rattle.phys_types.specs.Spots.{cells_from, AreSpots}
+use Rattle.phys_types.specs.Shown.{IsLayoutOf, IsKeptOf}
+use Rattle.phys_types.proofs.Kept.{kept_low, kept_cells}
 use Rattle.fat_layouts.specs.declared.stops.Stop.{Stop}
 use Rattle.fat_layouts.specs.declared.stops.CuredLayout.{CuredLayout}
 use Rattle.fat_layouts.specs.Stops.{HasNode, IsLaid, IsLastPassed, first_stop, all_stops}
-use Rattle.fat_layouts.specs.Standing.{Curing, IsCuredLayout, AreCuredLayouts}
-use Rattle.fat_layouts.proofs.NodeCells.{EachHas, cells_have, items_have}
+use Rattle.fat_layouts.specs.Standing.{Curing, IsPart, IsCuredLayout, AreCuredLayouts}
+use Rattle.fat_layouts.proofs.NodeCells.{EachHas, cells_have, items_have, first_has}
 use Rattle.fat_layouts.proofs.StopLaws.{stops_rise, stops_ordered, width_before}
 
 by_cases : (a b : ℕ) → (a < b) ⊎ (b ≤ a)
@@ -42,39 +43,31 @@ last_at [] a (suc i) d l = absurd (omega arith)
 last_at (u ∷ us) a zero d l = absurd (omega arith)
 last_at (u ∷ us) a (suc i) d l = last_at us a i d (omega arith)
 
-module _ (table : Table) (kinds : List Kind) (t : TypeId) (x : CuredLayout) (h : IsCuredLayout table kinds t x) where
-  pub layout_ordered : IsNonDecreasingBy (λ (s : Stop). s.end) x.stops.items
-  layout_ordered = subst (IsNonDecreasingBy (λ (s : Stop). s.end)) (sym h.stops) (stops_ordered (kind_at kinds) (size_of table) first_stop h.spots x.size h.stand (omega arith))
+module _ (kind : NodeId → Kind) (spots : List Spot) (x : CuredLayout) (h : IsPart kind spots x) where
+  pub part_ordered : IsNonDecreasingBy (λ (s : Stop). s.end) x.stops.items
+  part_ordered = subst (IsNonDecreasingBy (λ (s : Stop). s.end)) (sym h.stops) (stops_ordered kind h.size first_stop spots x.size h.stand (omega arith))
 
-  pub layout_first : slice_get x.stops.items 0 ≡ Some first_stop
-  layout_first = ap (λ (xs : List Stop). slice_get xs 0) h.stops
+  pub part_first : slice_get x.stops.items 0 ≡ Some first_stop
+  part_first = ap (λ (xs : List Stop). slice_get xs 0) h.stops
 
-  module _ (w : IsWellFormed table) (complete : IsComplete table t) where
-    -- there are as many cells as bytes
-    size_same : x.size ≡ size_of table t
-    size_same = sym (length_all (size_of table) h.spots x.size h.stand) ∙ ap length h.cells ∙ length_cells table w (physically_equal table) t complete
+  at_stop : (o : ℕ) (s : Stop) (l : IsLastPassed x.stops.items o s) → slice_get (all_stops kind spots) l.index ≡ Some s
+  at_stop o s l = subst (λ (xs : List Stop). slice_get xs l.index ≡ Some s) h.stops l.there
 
-    at_stop : (o : ℕ) (s : Stop) (l : IsLastPassed x.stops.items o s) → slice_get (all_stops (kind_at kinds) h.spots) l.index ≡ Some s
-    at_stop o s l = subst (λ (xs : List Stop). slice_get xs l.index ≡ Some s) h.stops l.there
+  pub offset_small : (o : ℕ) (s : Stop) → IsLastPassed x.stops.items o s → s.cured + (o - s.end) ≤ 3 * o
+  offset_small o s l =
+      let r = (stops_rise kind h.size first_stop spots x.size l.index s h.stand (omega arith) (at_stop o s l)).1 in
+      let p = l.passed in omega arith
 
-    pub offset_small : (o : ℕ) (s : Stop) → o ≤ size_of table t → IsLastPassed x.stops.items o s → s.cured + (o - s.end) ≤ 4194304
-    offset_small o s k l =
-        let r = (stops_rise (kind_at kinds) (size_of table) first_stop h.spots x.size l.index s h.stand (omega arith) (at_stop o s l)).1 in
-        let p = l.passed in
-        let m = (w.sized t complete).most in omega arith
-
-    pub offset_is : (o : ℕ) (s : Stop) → o ≤ size_of table t → IsBetweenPointers (cells_of table t) o → IsLastPassed x.stops.items o s
-        → s.cured + (o - s.end) ≡ before (kind_at kinds) (cells_of table t) o
-    offset_is o s k b l =
-        let e = size_same in
-        let r = width_before (kind_at kinds) (size_of table) first_stop h.spots x.size o l.index s h.stand (omega arith) (at_stop o s l) l.passed (omega arith)
-        (λ y q. l.next y (subst (λ (xs : List Stop). slice_get xs (suc l.index) ≡ Some y) (sym h.stops) q))
-        (λ n u j q. b.whole n u j (ap (λ (cs : List Cell). slice_get cs o) (sym h.cells) ∙ ap (slice_get (cells_from 0 h.spots x.size)) (sym f) ∙ q)) in
-        let g = ap (before (kind_at kinds) (cells_from 0 h.spots x.size)) f in
-        let z = ap (λ (cs : List Cell). before (kind_at kinds) cs o) h.cells in omega arith
-      where
-        f : o - 0 ≡ o
-        f = omega arith
+  pub offset_is : (o : ℕ) (s : Stop) → o ≤ x.size → IsBetweenPointers (cells_from 0 spots x.size) o → IsLastPassed x.stops.items o s
+      → s.cured + (o - s.end) ≡ before kind (cells_from 0 spots x.size) o
+  offset_is o s k b l =
+      let r = width_before kind h.size first_stop spots x.size o l.index s h.stand (omega arith) (at_stop o s l) l.passed k
+      (λ y q. l.next y (subst (λ (xs : List Stop). slice_get xs (suc l.index) ≡ Some y) (sym h.stops) q))
+      (λ n u j q. b.whole n u j (ap (slice_get (cells_from 0 spots x.size)) (sym f) ∙ q)) in
+      let g = ap (before kind (cells_from 0 spots x.size)) f in omega arith
+    where
+      f : o - 0 ≡ o
+      f = omega arith
 
 -- no pointer goes on behind the last byte
 pub end_is_whole : (table : Table) → IsWellFormed table → (t : TypeId) → IsComplete table t → IsBetweenPointers (cells_of table t) (size_of table t)
@@ -87,21 +80,43 @@ pub all_before : (table : Table) → IsWellFormed table → (kinds : List Kind) 
     → before (kind_at kinds) (cells_of table t) (size_of table t) ≡ cured_size table (kind_at kinds) t
 all_before table w kinds t complete = ap (before (kind_at kinds) (cells_of table t)) (sym (length_cells table w (physically_equal table) t complete))
 
--- what the building of stops asks of a type's layout
-pub layout_laid : (table : Table) → IsWellFormed table → (t : TypeId) (x : Layout) → IsLayoutOf table (physically_equal table) t x → IsLaid x.spots.items
-layout_laid table w t x h = record { size = size_of table; end = x.size; stand = h.spots; small = (layout_low table w (physically_equal table) t x h).1 }
+-- what the building of stops asks of the part that is kept
+pub part_laid : (table : Table) → IsWellFormed table → (t : TypeId) (k : Repeated) → IsKeptOf table (physically_equal table) t k → IsLaid k.part.spots.items
+part_laid table w t k h = record { size = size_of table; end = k.part.size; stand = h.spots; small = (kept_low table (physically_equal table) t w k h).0.1 }
+
+pub part_cured : (table : Table) → IsWellFormed table → (kinds : List Kind) (t : TypeId) (k : Repeated) (x : CuredLayout) → IsKeptOf table (physically_equal table) t k
+    → x.size ≡ k.part.size → x.stops.items ≡ all_stops (kind_at kinds) k.part.spots.items → IsCuredLayout table kinds t x
+part_cured table w kinds t k x h e f = record {
+  spots = k.part.spots.items;
+  part = record {
+    size = size_of table;
+    stand = subst (AreSpots (size_of table) 0 k.part.spots.items) (sym e) h.spots;
+    small = let l = (kept_low table (physically_equal table) t w k h).0.1 in omega arith;
+    stops = f;
+  };
+  count = k.count;
+  cells = ap (λ (n : ℕ). repeat k.count (cells_from 0 k.part.spots.items n)) e ∙ kept_cells table (physically_equal table) t k h;
+}
+
+shaped_nodes : (table : Table) (n : ℕ) → All (λ (e : Entry). AreNodesOf n e.shape) table → (u : TypeId) → AreNodesOf n (shape_at table u)
+shaped_nodes table n nodes u = of (by_cases u.0 (length table))
+  where
+    of : (u.0 < length table) ⊎ (length table ≤ u.0) → AreNodesOf n (shape_at table u)
+    of (inl l) = nodes u.0 void_entry l
+    of (inr l) = subst (λ (e : Entry). AreNodesOf n e.shape) (sym (get_or_past table u.0 void_entry l)) tt
 
 pub layout_nodes : (table : Table) → IsWellFormed table → (n : ℕ) → All (λ (e : Entry). AreNodesOf n e.shape) table → (t : TypeId) (x : Layout)
     → IsLayoutOf table (physically_equal table) t x → All (λ (s : Spot). HasNode n s.item) x.spots.items
 layout_nodes table w n nodes t x h =
-    items_have n 0 x.spots.items x.size (subst (EachHas n) (sym h.cells) (cells_have table w n shaped (physically_equal table) t))
-  where
-    shaped : (u : TypeId) → AreNodesOf n (shape_at table u)
-    shaped u = of (by_cases u.0 (length table))
-      where
-        of : (u.0 < length table) ⊎ (length table ≤ u.0) → AreNodesOf n (shape_at table u)
-        of (inl l) = nodes u.0 void_entry l
-        of (inr l) = subst (λ (e : Entry). AreNodesOf n e.shape) (sym (get_or_past table u.0 void_entry l)) tt
+    items_have n 0 x.spots.items x.size (subst (EachHas n) (sym h.cells) (cells_have table w n (shaped_nodes table n nodes) (physically_equal table) t))
+
+-- the pointers of the part have nodes of the table, as those of all copies have
+pub part_nodes : (table : Table) → IsWellFormed table → (n : ℕ) → All (λ (e : Entry). AreNodesOf n e.shape) table → (t : TypeId) (k : Repeated)
+    → IsKeptOf table (physically_equal table) t k → All (λ (s : Spot). HasNode n s.item) k.part.spots.items
+part_nodes table w n nodes t k h =
+    items_have n 0 k.part.spots.items k.part.size
+    (first_has n k.count (cells_from 0 k.part.spots.items k.part.size) h.some
+    (subst (EachHas n) (sym (kept_cells table (physically_equal table) t k h)) (cells_have table w n (shaped_nodes table n nodes) (physically_equal table) t)))
 
 -- ---- the layouts that are kept
 pub kept_formed : (p q : Curing) (xs : List CuredLayout) → p ≡ q → AreCuredLayouts p.table p.kinds xs → IsWellFormed q.table

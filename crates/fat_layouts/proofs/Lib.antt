@@ -1,3 +1,4 @@
 pub mod NodeCells
 mod StopLaws
 pub mod LayoutLaws
+pub mod CopyLaws

@@ -50,6 +50,11 @@ module _ (n : ℕ) where
   repeated zero xs h = tt
   repeated (suc k) xs h = joined xs (repeat k xs) h (repeated k xs h)
 
+  -- the first of some copies
+  pub first_has : (k : ℕ) (xs : List Cell) → 0 < k → EachHas n (repeat k xs) → EachHas n xs
+  first_has zero xs l h = absurd (omega arith)
+  first_has (suc k) xs l h = front xs (repeat k xs) h
+
   padded : (k : ℕ) (xs : List Cell) → EachHas n xs → EachHas n (padded_to k xs)
   padded k xs h = joined xs (replicate (k - length xs) raw) h (raws (k - length xs))
 

@@ -37,7 +37,7 @@ module _ (kind : NodeId → Kind) where
   mixed_widths t a zero (suc i) h = absurd (omega arith)
   mixed_widths t a (suc n) (suc i) h = let r = mixed_widths t (a + 1) n i (omega arith) in omega arith
 
-  front_widths : (xs ys : List Cell) (i : ℕ) → i ≤ length xs → before kind (xs ++ ys) i ≡ before kind xs i
+  pub front_widths : (xs ys : List Cell) (i : ℕ) → i ≤ length xs → before kind (xs ++ ys) i ≡ before kind xs i
   front_widths xs ys zero h = refl
   front_widths [] ys (suc i) h = absurd (omega arith)
   front_widths (x ∷ xs) ys (suc i) h = let r = front_widths xs ys i (omega arith) in omega arith

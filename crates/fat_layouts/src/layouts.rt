@@ -12,7 +12,7 @@ ghost use Rattle.c_types.specs.Widths.{before, cured_size};
 ghost use Rattle.c_types.specs.Sound.{IsWellFormed};
 ghost use Rattle.fat_layouts.specs.Standing.{IsCuredLayout};
 
-use crate::stops::{CuredLayout, last_passed, stops_of};
+use crate::stops::{CuredLayout, cured_in, stops_of};
 use c_types::Types;
 use cc_base::{Kinds, NoMemory, TypeId};
 use phys_types::{Known, Phys};
@@ -49,10 +49,10 @@ fn layout_of(
     requires nodes { All (λ e. AreNodesOf (length kinds.now) e.shape) known.now }
     ensures { IfOk result (λ x. IsCuredLayout known.now kinds.now t x) }
 {
-    let layout = known.layout(t);
-    let stops = stops_of(alloc, kinds, &layout.spots)?;
+    let own = known.repeated(t);
+    let stops = stops_of(alloc, kinds, &own.part.spots)?;
     Ok(CuredLayout {
-        size: layout.size,
+        size: own.part.size,
         stops,
     })
 }
@@ -99,7 +99,10 @@ impl<'a> Layouts<'a> {
         ensures { IsBetweenPointers (cells_of self.now.table t) offset → result
             ≡ before (kind_at self.now.kinds) (cells_of self.now.table t) offset }
     {
-        let stop = last_passed(&self.layouts[t.0 as usize].stops, offset);
-        stop.cured + (offset - stop.end)
+        let part = &self.layouts[t.0 as usize];
+        let copies = offset / part.size;
+        let whole = cured_in(part, part.size);
+        let rest = cured_in(part, offset % part.size);
+        copies * whole + rest
     }
 }

@@ -1,10 +1,17 @@
 //! The layout of a type as a list of places where its items end, in the source and once cured.
 #![tactic(auto)]
 
-ghost use Rattle.std.specs.Prelude.{◌≡◌, IfOk, length, slice_get, Some};
+ghost use Rattle.std.specs.Prelude.{◌≡◌, ◌≤◌, ◌*◌, List, IfOk, length, slice_get, Some};
 ghost use Rattle.std.specs.List.{All};
 ghost use Rattle.std.specs.List.Sorted.{IsNonDecreasingBy};
+ghost use Rattle.cc_base.specs.declared.kind.Kind.{Kind};
+ghost use Rattle.cc_base.specs.declared.number.NodeId.{NodeId};
 ghost use Rattle.cc_base.specs.Kinds.{kind_at};
+ghost use Rattle.c_types.specs.Cells.{IsBetweenPointers};
+ghost use Rattle.c_types.specs.Widths.{before};
+ghost use Rattle.phys_types.specs.declared.spot.Spot.{Spot};
+ghost use Rattle.phys_types.specs.Spots.{cells_from};
+ghost use Rattle.fat_layouts.specs.Standing.{IsPart};
 ghost use Rattle.fat_layouts.specs.Stops.{HasNode, IsLaid, item_width, all_stops, first_stop, IsLastPassed};
 
 use crate::widths::width;
@@ -19,7 +26,7 @@ pub(crate) struct Stop {
     pub(crate) cured: u64,
 }
 
-/// The layout of a type: how many cells it has, and its stops, from the start on.
+/// The part of which the layout of a type consists: how many cells it has, and its stops, from the start on.
 #[derive(Debug, Drop)]
 pub(crate) struct CuredLayout {
     pub(crate) size: u64,
@@ -64,4 +71,17 @@ pub(crate) fn last_passed(stops: &[Stop], offset: u64) -> Stop
 {
     let passed = stops.partition_point(|stop| stop.end <= offset);
     stops[passed - 1]
+}
+
+/// The bytes that the first bytes of a part take once cured, as many as `offset`.
+pub(crate) fn cured_in(part: &CuredLayout, offset: u64) -> u64
+    requires part { (kind : NodeId → Kind) × (spots : List Spot) × IsPart kind spots part.now }
+    requires within { offset ≤ part.now.size }
+    ensures small { result ≤ 3 * offset }
+    ensures before { (kind : NodeId → Kind) (spots : List Spot) → IsPart kind spots part.now
+        → IsBetweenPointers (cells_from 0 spots part.now.size) offset
+        → result ≡ before kind (cells_from 0 spots part.now.size) offset }
+{
+    let stop = last_passed(&part.stops, offset);
+    stop.cured + (offset - stop.end)
 }

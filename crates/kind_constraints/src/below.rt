@@ -50,17 +50,18 @@ pub(crate) fn pointees_of(
 }
 
 /// Whether one of the types lies strictly below t.
-fn has_below(known: &Known, pointees: &[TypeId], t: TypeId) -> bool
+fn has_below(known: &Known, pointees: &[TypeId], t: TypeId) -> Result<bool, NoMemory>
     requires typed { IsType known.now t }
     requires pointees { All (IsType known.now) pointees.now }
-    ensures { result ≡ list_any (λ q. strictly_below known.now q t) pointees.now }
+    ensures { IfOk result (λ below. below
+        ≡ list_any (λ q. strictly_below known.now q t) pointees.now) }
 {
     'pointees: for pointee in pointees {
-        if known.strictly_below(*pointee, t) {
-            return true;
+        if known.strictly_below(*pointee, t)? {
+            return Ok(true);
         }
     }
-    false
+    Ok(false)
 }
 
 /// Whether some node's pointee lies strictly below a type; it is kept for the type.
@@ -80,7 +81,7 @@ fn kept_below(
     if let Some(below) = belows.get(&t) {
         return Ok(*below);
     }
-    let below = has_below(&asked.known, &asked.pointees, t);
+    let below = has_below(&asked.known, &asked.pointees, t)?;
     belows.insert(t, below)?;
     Ok(below)
 }

@@ -83,7 +83,8 @@ pub(crate) fn add_union(
         (Gains (λ p q. (HoldsMixed types.now v v → ⊥) × StandInUnion types.now v p q)
         found.old found.new) }
 {
-    if known.is_mixed(v) {
+    let mixed = known.is_mixed(v)?;
+    if mixed {
         return Ok(());
     }
     if let Some(largest) = largest(types, v) {

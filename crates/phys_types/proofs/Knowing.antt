@@ -1,31 +1,26 @@
 -- What is known of a table answers for all its types.
-use Rattle.std.proofs.Common.{◌≡◌, ℕ, Bool, true, false, ◌||◌, List, get_or, refl, ap, sym, subst, ◌∙◌, true≢false}
+use Rattle.std.proofs.Common.{◌≡◌, ℕ, Bool, true, false, ◌||◌, List, refl, ap, sym, subst, ◌∙◌, true≢false}
 use Rattle.cc_base.specs.declared.number.TypeId.{TypeId}
 use Rattle.c_types.specs.Table.{Table, IsType, is_function}
 use Rattle.c_types.specs.Equality.{physically_equal, begins_with}
+use Rattle.phys_types.specs.declared.keeping.Repeated.{Repeated}
 use Rattle.phys_types.specs.declared.spot.Layout.{Layout}
 use Rattle.phys_types.specs.Numbers.{number_in, same_number}
 use Rattle.phys_types.specs.Rounds.{AreAllKept}
 use Rattle.phys_types.specs.Shown.{IsLayoutOf, begins_spots}
 use Rattle.phys_types.specs.Views.{IsKnown}
 use Rattle.phys_types.proofs.Classes.{begins_right}
-use Rattle.phys_types.proofs.Viewing.{layout_in, all_kept}
+use Rattle.phys_types.proofs.Viewing.{all_kept}
 
 neither : (a b : Bool) → (a || b) ≡ false → (a ≡ false) × (b ≡ false)
 neither false false k = (refl, refl)
 neither false true k = absurd (true≢false k)
 neither true b k = absurd (true≢false k)
 
-module _ (table : Table) (order : List TypeId) (places numbers : List ℕ) (layouts : List Layout) (k : IsKnown table order places numbers layouts) where
-  -- what is read of a type is its layout
-  pub known_layout : (t : TypeId) (x : Layout) (ps : List ℕ) (ls : List Layout) → IsType table t → ps ≡ places → ls ≡ layouts
-      → ((d : Layout) → x ≡ get_or ls (get_or ps t.0 0) d) → IsLayoutOf table (physically_equal table) t x
-  known_layout t x ps ls h p l r =
-      layout_in table order places k.whole numbers layouts k.settled t x h (λ d. r d ∙ (λ i. get_or (l i) (get_or (p i) t.0 0) d))
-
-  pub known_kept : (ps : List ℕ) (ls : List Layout) → ps ≡ places → ls ≡ layouts → AreAllKept table ps ls
+module _ (table : Table) (order : List TypeId) (places numbers : List ℕ) (layouts : List Repeated) (k : IsKnown table order places numbers layouts) where
+  pub known_kept : (ps : List ℕ) (ls : List Repeated) → ps ≡ places → ls ≡ layouts → AreAllKept table ps ls
   known_kept ps ls p l =
-      subst (λ xs. AreAllKept table xs ls) (sym p) (subst (AreAllKept table places) (sym l) (all_kept table order places k.whole numbers layouts k.settled))
+      subst (λ xs. AreAllKept table xs ls) (sym p) (subst (AreAllKept table places) (sym l) (all_kept table order places k.whole numbers layouts k.settled k.formed))
 
   pub known_equal : (t u : TypeId) → IsType table t → IsType table u → same_number (number_in numbers) t u ≡ physically_equal table t u
   known_equal t u a b = k.settled.equal t u (k.whole.whole t a) (k.whole.whole u b)

@@ -8,6 +8,7 @@ pub mod Loops
 pub mod Tiled
 pub mod Structs
 pub mod Parts
+pub mod Kept
 pub mod Unions
 pub mod Shapes
 pub mod Makeups

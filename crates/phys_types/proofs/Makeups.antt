@@ -11,6 +11,7 @@ use Rattle.c_types.specs.Cells.{Relation, alike, all_alike, cells_at}
 use Rattle.c_types.specs.Equality.{bytes, slot_of, same_slot, makeup_of, makeup_at, same_makeup}
 use Rattle.c_types.specs.Sound.{IsWellFormed}
 use Rattle.phys_types.specs.declared.spot.Layout.{Layout}
+use Rattle.phys_types.specs.declared.spot.Spot.{Spot}
 use Rattle.phys_types.specs.Spots.{cells_from, AreSpots}
 use Rattle.phys_types.specs.Numbers.{same_number, same_spots}
 use Rattle.phys_types.specs.Shown.{IsLayoutOf}
@@ -59,34 +60,44 @@ module _ (table : Table) (Z E : Relation) (t u : TypeId) where
       → same_makeup E (makeup_at table Z t) (makeup_at table Z u) ≡ all_alike E (cells_at table Z t) (cells_at table Z u)
   data_alike n m = λ i. same_makeup E (bytes_of t (shape_at table t) n i) (bytes_of u (shape_at table u) m i)
 
-module _ (table : Table) (Z : Relation) (number : TypeId → ℕ) (t u : TypeId) (x y : Layout)
+module _ (table : Table) (Z : Relation) (number : TypeId → ℕ) (t u : TypeId) (i j : ℕ) (xs ys : List Spot)
     (n : (ps : List TypeId) (r : TypeId) → shape_at table t ≡ Function ps r → ⊥) (m : (ps : List TypeId) (r : TypeId) → shape_at table u ≡ Function ps r → ⊥)
-    (h : IsLayoutOf table Z t x) (k : IsLayoutOf table Z u y) where
+    (hs : AreSpots (size_of table) 0 xs i) (h : cells_from 0 xs i ≡ cells_at table Z t)
+    (ks : AreSpots (size_of table) 0 ys j) (k : cells_from 0 ys j ≡ cells_at table Z u) where
   abbrev alike_is : Bool
   alike_is = same_makeup (same_number number) (makeup_at table Z t) (makeup_at table Z u)
 
-  cells_is : all_alike (same_number number) (cells_from 0 x.spots.items x.size) (cells_from 0 y.spots.items y.size) ≡ alike_is
-  cells_is = (λ i. all_alike (same_number number) (h.cells i) (k.cells i)) ∙ sym (data_alike table Z (same_number number) t u n m)
+  cells_is : all_alike (same_number number) (cells_from 0 xs i) (cells_from 0 ys j) ≡ alike_is
+  cells_is = (λ l. all_alike (same_number number) (h l) (k l)) ∙ sym (data_alike table Z (same_number number) t u n m)
 
-  pub same_size_alike : (b : Bool) → x.size ≡ y.size → b ≡ same_spots number x.spots.items y.spots.items → b ≡ alike_is
-  same_size_alike b e f =
-      let other : AreSpots (size_of table) 0 y.spots.items x.size = subst (AreSpots (size_of table) 0 y.spots.items) (sym e) k.spots in
+  pub spots_alike : (b : Bool) → i ≡ j → b ≡ same_spots number xs ys → b ≡ alike_is
+  spots_alike b e f =
+      let other : AreSpots (size_of table) 0 ys i = subst (AreSpots (size_of table) 0 ys) (sym e) ks in
       f
-      ∙ same_answer (same_spots number x.spots.items y.spots.items) (all_alike (same_number number) (cells_from 0 x.spots.items x.size) (cells_from 0 y.spots.items x.size))
-      (cells_from_same number (size_of table) 0 x.size x.spots.items y.spots.items h.spots other)
-      (same_from_cells number (size_of table) 0 x.size x.spots.items y.spots.items h.spots other)
-      ∙ ap (λ j. all_alike (same_number number) (cells_from 0 x.spots.items x.size) (cells_from 0 y.spots.items j)) e
+      ∙ same_answer (same_spots number xs ys) (all_alike (same_number number) (cells_from 0 xs i) (cells_from 0 ys i))
+      (cells_from_same number (size_of table) 0 i xs ys hs other)
+      (same_from_cells number (size_of table) 0 i xs ys hs other)
+      ∙ ap (λ l. all_alike (same_number number) (cells_from 0 xs i) (cells_from 0 ys l)) e
       ∙ cells_is
 
-  pub other_size_apart : (x.size ≡ y.size → ⊥) → false ≡ alike_is
-  other_size_apart e = by (all_alike (same_number number) (cells_from 0 x.spots.items x.size) (cells_from 0 y.spots.items y.size)) refl
+  pub lengths_apart : (i ≡ j → ⊥) → false ≡ alike_is
+  lengths_apart e = by (all_alike (same_number number) (cells_from 0 xs i) (cells_from 0 ys j)) refl
     where
-      by : (b : Bool) → all_alike (same_number number) (cells_from 0 x.spots.items x.size) (cells_from 0 y.spots.items y.size) ≡ b → false ≡ alike_is
+      by : (b : Bool) → all_alike (same_number number) (cells_from 0 xs i) (cells_from 0 ys j) ≡ b → false ≡ alike_is
       by true f =
-          absurd (e (sym (length_all (size_of table) x.spots.items x.size h.spots)
-          ∙ pointwise_long (alike (same_number number)) (cells_from 0 x.spots.items x.size) (cells_from 0 y.spots.items y.size) f
-          ∙ length_all (size_of table) y.spots.items y.size k.spots))
+          absurd (e (sym (length_all (size_of table) xs i hs)
+          ∙ pointwise_long (alike (same_number number)) (cells_from 0 xs i) (cells_from 0 ys j) f
+          ∙ length_all (size_of table) ys j ks))
       by false f = sym f ∙ cells_is
+
+module _ (table : Table) (Z : Relation) (number : TypeId → ℕ) (t u : TypeId) (x y : Layout)
+    (n : (ps : List TypeId) (r : TypeId) → shape_at table t ≡ Function ps r → ⊥) (m : (ps : List TypeId) (r : TypeId) → shape_at table u ≡ Function ps r → ⊥)
+    (h : IsLayoutOf table Z t x) (k : IsLayoutOf table Z u y) where
+  pub same_size_alike : (b : Bool) → x.size ≡ y.size → b ≡ same_spots number x.spots.items y.spots.items → b ≡ same_makeup (same_number number) (makeup_at table Z t) (makeup_at table Z u)
+  same_size_alike = spots_alike table Z number t u x.size y.size x.spots.items y.spots.items n m h.spots h.cells k.spots k.cells
+
+  pub other_size_apart : (x.size ≡ y.size → ⊥) → false ≡ same_makeup (same_number number) (makeup_at table Z t) (makeup_at table Z u)
+  other_size_apart = lengths_apart table Z number t u x.size y.size x.spots.items y.spots.items n m h.spots h.cells k.spots k.cells
 
 pub not_equal : (a b : ℕ) → (a ≡ b → ⊥) → (a == b) ≡ false
 not_equal a b h = by (a == b) refl

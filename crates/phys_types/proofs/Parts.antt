@@ -9,11 +9,12 @@ use Rattle.c_types.specs.Layouts.{size_of, offset_of}
 use Rattle.c_types.specs.Cells.{Cell, Relation, cells_at, cells_of_shape}
 use Rattle.c_types.specs.Sound.{IsWellFormed}
 use Rattle.c_types.proofs.Cells.{cells_are, length_cells}
+use Rattle.phys_types.specs.declared.keeping.Repeated.{Repeated}
 use Rattle.phys_types.specs.declared.spot.Layout.{Layout}
 use Rattle.phys_types.specs.declared.spot.Spot.{Spot}
 use Rattle.phys_types.specs.Spots.{AreSpots, item_size}
 use Rattle.phys_types.specs.Numbers.{AreLow}
-use Rattle.phys_types.specs.Shown.{IsLayoutOf, IsLow, IsKept, ArePartsKept, ArePartsShown, is_struct_shape, IsStruct}
+use Rattle.phys_types.specs.Shown.{IsLayoutOf, IsLow, IsKeptOf, IsLowKept, IsKept, ArePartsKept, ArePartsShown, is_struct_shape, IsStruct}
 use Rattle.phys_types.proofs.Spreading.{spots_end, length_all}
 use Rattle.phys_types.proofs.Structs.{struct_tag, offset_low}
 
@@ -43,19 +44,19 @@ parts_of_struct table t h = struct_parts (shape_at table t) (members_at table t)
 pub parts_of_union : (table : Table) (t : TypeId) → IsUnion table t → parts_at table t ≡ members_at table t
 parts_of_union table t h = union_parts (shape_at table t) (members_at table t) h
 
-pub kept_low : (places : List ℕ) (built : List Layout) (t : TypeId) (part : Layout) → IsKept places built t → All IsLow built
-    → ((d : Layout) → part ≡ get_or built (get_or places t.0 0) d) → IsLow part
-kept_low places built t part k low e = subst IsLow (sym (e part)) (low (get_or places t.0 0) part k.1)
+pub low_at : (places : List ℕ) (built : List Repeated) (t : TypeId) (part : Repeated) → IsKept places built t → All IsLowKept built
+    → ((d : Repeated) → part ≡ get_or built (get_or places t.0 0) d) → IsLowKept part
+low_at places built t part k low e = subst IsLowKept (sym (e part)) (low (get_or places t.0 0) part k.1)
 
-module _ (table : Table) (t : TypeId) (parts : parts_at table t ≡ members_at table t) (places : List ℕ) (built : List Layout) where
+module _ (table : Table) (t : TypeId) (parts : parts_at table t ≡ members_at table t) (places : List ℕ) (built : List Repeated) where
   pub member_kept : (i : ℕ) (ty : TypeId) → i < length (members_at table t) → ty ≡ get_or (members_at table t) i t → ArePartsKept table places built t → IsKept places built ty
   member_kept i ty l e k = subst (IsKept places built) (sym e) (subst (All (IsKept places built)) parts k i t l)
 
-  pub member_shown : (E : Relation) (i : ℕ) (ty : TypeId) (part : Layout) → i < length (members_at table t) → ty ≡ get_or (members_at table t) i t
-      → ((d : Layout) → part ≡ get_or built (get_or places ty.0 0) d) → ArePartsShown table E places built t → IsLayoutOf table E (get_or (members_at table t) i t) part
-  member_shown E i ty part l e r h =
-      subst (IsLayoutOf table E (get_or (members_at table t) i t)) (sym (r part ∙ ap (λ (n : ℕ). get_or built (get_or places n 0) part) (ap (λ (u : TypeId). u.0) e)))
-      (h (get_or (members_at table t) i t) part (subst (λ xs. Contains xs (get_or (members_at table t) i t)) (sym parts) (Contains-get_or (members_at table t) i t l)))
+  pub member_shown : (E : Relation) (i : ℕ) (ty : TypeId) → i < length (members_at table t) → ty ≡ get_or (members_at table t) i t
+      → ArePartsShown table E places built t → (d : Repeated) → IsKeptOf table E (get_or (members_at table t) i t) (get_or built (get_or places ty.0 0) d)
+  member_shown E i ty l e h d =
+      subst (IsKeptOf table E (get_or (members_at table t) i t)) (sym (ap (λ (u : TypeId). get_or built (get_or places u.0 0) d) e))
+      (h (get_or (members_at table t) i t) d (subst (λ xs. Contains xs (get_or (members_at table t) i t)) (sym parts) (Contains-get_or (members_at table t) i t l)))
 
 pub offset_small : (table : Table) → IsWellFormed table → (t : TypeId) (i : ℕ) → IsStruct table t → IsComplete table t → i < length (members_at table t) → offset_of table t i ≤ 1048576
 offset_small table w t i s c l =
@@ -66,7 +67,7 @@ offset_small table w t i s c l =
 -- ---- a layout that shows a type is no larger than a type
 
 module _ (size : TypeId → ℕ) where
-  low_spots : (at : ℕ) (ss : List Spot) (end : ℕ) → AreSpots size at ss end → end ≤ 1048576 → AreLow ss
+  pub low_spots : (at : ℕ) (ss : List Spot) (end : ℕ) → AreSpots size at ss end → end ≤ 1048576 → AreLow ss
   low_spots at [] end h b i d l = absurd (omega arith)
   low_spots at (s ∷ ss) end h b zero d l = let e = spots_end size (s.start + item_size s.item) ss end h.2 in omega arith
   low_spots at (s ∷ ss) end h b (suc i) d l = low_spots (s.start + item_size s.item) ss end h.2 b i d (omega arith)

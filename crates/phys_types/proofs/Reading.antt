@@ -6,10 +6,11 @@ use Rattle.std.specs.List.{Contains}
 use Rattle.std.proofs.lemmas.Bool.{cases_lt}
 use Rattle.std.proofs.lemmas.List.Elements.{Contains-append_left, Contains-append_right}
 use Rattle.std.proofs.lemmas.Bool.Decides.{eqb_tells}
-use Rattle.std.proofs.lemmas.List.{take_more, get_or-set_same, length-set}
+use Rattle.std.proofs.lemmas.List.{take_more, get_or-set_same, length-set, get_or_append_left, get_or_push}
 use Rattle.std.proofs.lemmas.Option.{slice_get-get_or}
 use Rattle.cc_base.specs.declared.number.TypeId.{TypeId}
 use Rattle.phys_types.specs.declared.numbered.Numbered.{Numbered}
+use Rattle.phys_types.specs.Numbers.{number_in}
 use Rattle.phys_types.specs.Turning.{list_in, items_in, HaveAll, HasType}
 use Rattle.phys_types.proofs.Turned.{append_cases, one_of, at_head}
 
@@ -116,4 +117,14 @@ lists_more ls new i v T f e r inv t l = elim (cases_lt t.0 i) [
   | inr a ↦
       let q = same_type t i l a in
       ap (λ (xs : Lists). list_in xs t) e ∙ ap (λ y. list_in (ls ++ v ∷ []) y) q ∙ ap items_in (get_last ls v i f) ∙ r ∙ ap T (sym q)
+]
+
+-- a number for one more type
+pub numbers_more : (old new : List ℕ) (i n : ℕ) (F : TypeId → ℕ) → length old ≡ i → new ≡ old ++ n ∷ [] → n ≡ F (record { 0 = i })
+    → ((t : TypeId) → t.0 < i → number_in old t ≡ F t) → (t : TypeId) → t.0 < i + 1 → number_in new t ≡ F t
+numbers_more old new i n F f e h inv t l = elim (cases_lt t.0 i) [
+  | inl a ↦ ap (λ (xs : List ℕ). get_or xs t.0 0) e ∙ get_or_append_left old (n ∷ []) 0 t.0 (omega arith) ∙ inv t a
+  | inr a ↦
+      let s = same_type t i l a in
+      ap (λ (xs : List ℕ). get_or xs t.0 0) e ∙ ap (λ (u : TypeId). get_or (old ++ n ∷ []) u.0 0) s ∙ get_or_push old n 0 i f ∙ h ∙ ap F (sym s)
 ]

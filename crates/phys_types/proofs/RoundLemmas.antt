@@ -12,11 +12,11 @@ use Rattle.c_types.specs.Cells.{Relation}
 use Rattle.c_types.specs.Equality.{made_alike}
 use Rattle.c_types.specs.Sound.{IsWellFormed}
 use Rattle.type_laws.proofs.Relations.{made_alike_equiv}
-use Rattle.phys_types.specs.declared.spot.Layout.{Layout}
+use Rattle.phys_types.specs.declared.keeping.Repeated.{Repeated}
 use Rattle.phys_types.specs.Numbers.{same_number, number_in}
 use Rattle.phys_types.specs.Rounds.{IsOrder, AreShown, IsRound, first_place}
-use Rattle.phys_types.specs.Shown.{IsLayoutOf, IsLow, ArePartsKept, ArePartsShown}
-use Rattle.phys_types.proofs.Parts.{layout_low}
+use Rattle.phys_types.specs.Shown.{IsKeptOf, IsLowKept, ArePartsKept, ArePartsShown}
+use Rattle.phys_types.proofs.Kept.{kept_low}
 use Rattle.phys_types.proofs.Unions.{same_answer}
 
 -- A round, type by type.
@@ -110,7 +110,7 @@ alike_later p order n i r d b l m e f h =
 -- ---- type by type
 
 -- what the first i types have given
-pub record RoundSoFar (table : Table) (E : Relation) (order : List TypeId) (i : ℕ) (numbers : List ℕ) (layouts : List Layout) : Type 0 where
+pub record RoundSoFar (table : Table) (E : Relation) (order : List TypeId) (i : ℕ) (numbers : List ℕ) (layouts : List Repeated) : Type 0 where
   pub fits : length numbers ≡ length table
   pub so_far : length layouts ≡ i
   pub shown : AreShown table E order layouts
@@ -137,20 +137,20 @@ module _ (table : Table) (w : IsWellFormed table) (order : List TypeId) (places 
         (let t : IsType table p = subst (IsType table) e (o.types k.0 p (omega arith)) in let f = o.fits in omega arith),
       )
 
-  pub parts_kept : (i : ℕ) (d : TypeId) (layouts : List Layout) → i < length order → length layouts ≡ i → ArePartsKept table places layouts (get_or order i d)
+  pub parts_kept : (i : ℕ) (d : TypeId) (layouts : List Repeated) → i < length order → length layouts ≡ i → ArePartsKept table places layouts (get_or order i d)
   parts_kept i d layouts l e k f m =
       let c = part_place i d (get_or (parts_at table (get_or order i d)) k f) l (Contains-get_or (parts_at table (get_or order i d)) k f m) in
       (c.4, let n = c.3 in let b = c.1 in omega arith)
 
-  pub parts_shown : (E : Relation) (i : ℕ) (d : TypeId) (layouts : List Layout) → i < length order → length layouts ≡ i → AreShown table E order layouts
+  pub parts_shown : (E : Relation) (i : ℕ) (d : TypeId) (layouts : List Repeated) → i < length order → length layouts ≡ i → AreShown table E order layouts
       → ArePartsShown table E places layouts (get_or order i d)
   parts_shown E i d layouts l e s p x c =
       let k = part_place i d p l c in
-      subst (λ n. IsLayoutOf table E p (get_or layouts n x)) (sym k.3)
-      (subst (λ u. IsLayoutOf table E u (get_or layouts k.0 x)) k.2 (s k.0 p x (let b = k.1 in omega arith)))
+      subst (λ n. IsKeptOf table E p (get_or layouts n x)) (sym k.3)
+      (subst (λ u. IsKeptOf table E u (get_or layouts k.0 x)) k.2 (s k.0 p x (let b = k.1 in omega arith)))
 
-  pub all_low : (E : Relation) (layouts : List Layout) → AreShown table E order layouts → All IsLow layouts
-  all_low E layouts s i x l = layout_low table w E (get_or order i (record { 0 = 0 })) (get_or layouts i x) (s i (record { 0 = 0 }) x l)
+  pub all_low : (E : Relation) (layouts : List Repeated) → AreShown table E order layouts → All IsLowKept layouts
+  all_low E layouts s i x l = kept_low table E (get_or order i (record { 0 = 0 })) w (get_or layouts i x) (s i (record { 0 = 0 }) x l)
 
   pub round_start : (E : Relation) (numbers : List ℕ) → length numbers ≡ length table → RoundSoFar table E order 0 numbers []
   round_start E numbers f = record {
@@ -160,10 +160,10 @@ module _ (table : Table) (w : IsWellFormed table) (order : List TypeId) (places 
     numbered = λ k d l. absurd (omega arith);
   }
 
-  pub round_more : (E : Relation) → IsEquivalence E → (i : ℕ) (d : TypeId) (numbers next : List ℕ) (layouts more : List Layout) (layout : Layout) (place : ℕ) → i < length order
+  pub round_more : (E : Relation) → IsEquivalence E → (i : ℕ) (d : TypeId) (numbers next : List ℕ) (layouts more : List Repeated) (layout : Repeated) (place : ℕ) → i < length order
       → place ≡ first_place (λ u. made_alike table E u (get_or order i d)) (take i order)
       → next ≡ set numbers (get_or order i d).0 place → more ≡ layouts ++ layout ∷ []
-      → IsLayoutOf table E (get_or order i d) layout → RoundSoFar table E order i numbers layouts → RoundSoFar table E order (i + 1) next more
+      → IsKeptOf table E (get_or order i d) layout → RoundSoFar table E order i numbers layouts → RoundSoFar table E order (i + 1) next more
   round_more E q i d numbers next layouts more layout place l p n m h s =
       let t : TypeId = get_or order i d in
       let own : made_alike table E (get_or order i d) (get_or order i d) ≡ true = (made_alike_equiv table q).refl (get_or order i d) in
@@ -174,14 +174,14 @@ module _ (table : Table) (w : IsWellFormed table) (order : List TypeId) (places 
         so_far = ap length m ∙ length_push layouts layout ∙ ap (λ k. k + 1) s.so_far;
         shown = λ k e x b. elim (cases_lt k i) [
           | inl c ↦
-              subst (λ xs. IsLayoutOf table E (get_or order k e) (get_or xs k x)) (sym m)
-              (subst (IsLayoutOf table E (get_or order k e)) (sym (get_or_append_left layouts (layout ∷ []) x k (let f = s.so_far in omega arith))) (s.shown k e x (let f = s.so_far in omega arith)))
+              subst (λ xs. IsKeptOf table E (get_or order k e) (get_or xs k x)) (sym m)
+              (subst (IsKeptOf table E (get_or order k e)) (sym (get_or_append_left layouts (layout ∷ []) x k (let f = s.so_far in omega arith))) (s.shown k e x (let f = s.so_far in omega arith)))
           | inr c ↦
               let g : i ≡ k = (let z = ap length m ∙ length_push layouts layout in let f = s.so_far in omega arith) in
-              subst (λ j. IsLayoutOf table E (get_or order j e) (get_or more j x)) g
-              (subst (λ u. IsLayoutOf table E u (get_or more i x)) (get_or_default order i d e l)
-              (subst (λ xs. IsLayoutOf table E (get_or order i d) (get_or xs i x)) (sym m)
-              (subst (IsLayoutOf table E (get_or order i d)) (sym (get_or_push layouts layout x i s.so_far)) h)))
+              subst (λ j. IsKeptOf table E (get_or order j e) (get_or more j x)) g
+              (subst (λ u. IsKeptOf table E u (get_or more i x)) (get_or_default order i d e l)
+              (subst (λ xs. IsKeptOf table E (get_or order i d) (get_or xs i x)) (sym m)
+              (subst (IsKeptOf table E (get_or order i d)) (sym (get_or_push layouts layout x i s.so_far)) h)))
         ];
         numbered = λ k e b. elim (cases_lt k i) [
           | inl c ↦
@@ -196,7 +196,7 @@ module _ (table : Table) (w : IsWellFormed table) (order : List TypeId) (places 
         ];
       }
 
-  pub round_done : (E : Relation) (i : ℕ) (numbers : List ℕ) (layouts : List Layout) → length order ≤ i → i ≤ length order → RoundSoFar table E order i numbers layouts → IsRound table E order numbers layouts
+  pub round_done : (E : Relation) (i : ℕ) (numbers : List ℕ) (layouts : List Repeated) → length order ≤ i → i ≤ length order → RoundSoFar table E order i numbers layouts → IsRound table E order numbers layouts
   round_done E i numbers layouts a b s = record {
     fits = s.fits;
     all = let f = s.so_far in omega arith;
@@ -205,7 +205,7 @@ module _ (table : Table) (w : IsWellFormed table) (order : List TypeId) (places 
   }
 
   -- the numbers of a round tell apart what isn't made alike
-  pub round_tells : (E : Relation) → IsEquivalence E → (numbers : List ℕ) (layouts : List Layout) → IsRound table E order numbers layouts
+  pub round_tells : (E : Relation) → IsEquivalence E → (numbers : List ℕ) (layouts : List Repeated) → IsRound table E order numbers layouts
       → (t u : TypeId) → Contains order t → Contains order u → same_number (number_in numbers) t u ≡ made_alike table E t u
   round_tells E q numbers layouts r t u (i, a, e) (j, b, f) =
       same_answer (same_number (number_in numbers) t u) (made_alike table E t u)

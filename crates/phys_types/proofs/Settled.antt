@@ -11,7 +11,7 @@ use Rattle.c_types.specs.Table.{Table, IsType}
 use Rattle.c_types.specs.Cells.{Relation, same_type}
 use Rattle.c_types.specs.Equality.{within, made_alike, equal_at_level, physically_equal}
 use Rattle.c_types.specs.Sound.{IsWellFormed}
-use Rattle.phys_types.specs.declared.spot.Layout.{Layout}
+use Rattle.phys_types.specs.declared.keeping.Repeated.{Repeated}
 use Rattle.phys_types.specs.Numbers.{number_in, same_number}
 use Rattle.phys_types.specs.Reach.{IsClosed}
 use Rattle.phys_types.specs.Rounds.{IsOrder, AreShown, IsRound, AreSettled}
@@ -48,11 +48,11 @@ module _ (table : Table) (w : IsWellFormed table) (order : List TypeId) (places 
       made_agree table w (Contains order) closed (same_number (number_in numbers)) (equal_at_level table k) h t u a b
       ∙ sym (within_is (made_alike table (equal_at_level table k)) t u a b)
 
-  pub tells : (numbers next : List ℕ) (layouts : List Layout) → IsRound table (same_number (number_in numbers)) order next layouts
+  pub tells : (numbers next : List ℕ) (layouts : List Repeated) → IsRound table (same_number (number_in numbers)) order next layouts
       → (t u : TypeId) → Contains order t → Contains order u → same_number (number_in next) t u ≡ made_alike table (same_number (number_in numbers)) t u
   tells numbers next layouts r = round_tells table w order places o (same_number (number_in numbers)) (number_equiv (number_in numbers)) next layouts r
 
-  pub level_next : (k : ℕ) (numbers next : List ℕ) (layouts : List Layout) → AtLevel k numbers → IsRound table (same_number (number_in numbers)) order next layouts
+  pub level_next : (k : ℕ) (numbers next : List ℕ) (layouts : List Repeated) → AtLevel k numbers → IsRound table (same_number (number_in numbers)) order next layouts
       → AtLevel (k + 1) next
   unfolding AtLevel
   level_next k numbers next layouts h r t u a b =
@@ -61,7 +61,7 @@ module _ (table : Table) (w : IsWellFormed table) (order : List TypeId) (places 
       next_is : (k : ℕ) → suc k ≡ k + 1
       next_is k = omega arith
 
-  stays : (k : ℕ) (numbers next : List ℕ) (layouts : List Layout) → AtLevel k numbers → IsRound table (same_number (number_in numbers)) order next layouts → next ≡ numbers
+  stays : (k : ℕ) (numbers next : List ℕ) (layouts : List Repeated) → AtLevel k numbers → IsRound table (same_number (number_in numbers)) order next layouts → next ≡ numbers
       → (j : ℕ) (t u : TypeId) → Contains order t → Contains order u → same_number (number_in numbers) t u ≡ equal_at_level table (j + k) t u
   unfolding AtLevel
   stays k numbers next layouts h r e zero t u a b = h t u a b ∙ ap (λ n. equal_at_level table n t u) (plus k)
@@ -82,14 +82,14 @@ module _ (table : Table) (w : IsWellFormed table) (order : List TypeId) (places 
   unfolding AtLevel physically_equal
   at_last numbers h = h
 
-  pub shown_agree : (E F : Relation) (layouts : List Layout) → length layouts ≡ length order → ((t u : TypeId) → Contains order t → Contains order u → E t u ≡ F t u)
+  pub shown_agree : (E F : Relation) (layouts : List Repeated) → length layouts ≡ length order → ((t u : TypeId) → Contains order t → Contains order u → E t u ≡ F t u)
       → AreShown table E order layouts → AreShown table F order layouts
   shown_agree E F layouts l agree s i d x b =
       let h = s i d x b in
       let c : Contains order (get_or order i d) = Contains-get_or order i d (omega arith) in
-      record { spots = h.spots; cells = h.cells ∙ cells_agree table w (Contains order) closed E F agree (get_or order i d) c; holds = h.holds }
+      record { some = h.some; spots = h.spots; cells = h.cells ∙ cells_agree table w (Contains order) closed E F agree (get_or order i d) c; holds = h.holds }
 
-  pub settled : (numbers next : List ℕ) (layouts : List Layout) → IsRound table (same_number (number_in numbers)) order next layouts
+  pub settled : (numbers next : List ℕ) (layouts : List Repeated) → IsRound table (same_number (number_in numbers)) order next layouts
       → ((t u : TypeId) → Contains order t → Contains order u → same_number (number_in numbers) t u ≡ physically_equal table t u)
       → (last : List ℕ) → ((t u : TypeId) → Contains order t → Contains order u → same_number (number_in last) t u ≡ physically_equal table t u)
       → AreSettled table order last layouts
@@ -99,7 +99,7 @@ module _ (table : Table) (w : IsWellFormed table) (order : List TypeId) (places 
     shown = λ E g. shown_agree (same_number (number_in numbers)) E layouts r.all (λ t u a b. h t u a b ∙ sym (g t u a b)) r.shown;
   }
 
-  pub settled_still : (k : ℕ) (numbers next : List ℕ) (layouts : List Layout) → AtLevel k numbers → IsRound table (same_number (number_in numbers)) order next layouts → next ≡ numbers
+  pub settled_still : (k : ℕ) (numbers next : List ℕ) (layouts : List Repeated) → AtLevel k numbers → IsRound table (same_number (number_in numbers)) order next layouts → next ≡ numbers
       → k ≤ length table * length table → AreSettled table order next layouts
   unfolding AtLevel
   settled_still k numbers next layouts h r e l =
@@ -110,7 +110,7 @@ module _ (table : Table) (w : IsWellFormed table) (order : List TypeId) (places 
       back : k ≤ length table * length table → length table * length table - k + k ≡ length table * length table
       back l = omega arith
 
-  pub settled_last : (numbers next : List ℕ) (layouts : List Layout) → AtLevel (length table * length table) numbers
+  pub settled_last : (numbers next : List ℕ) (layouts : List Repeated) → AtLevel (length table * length table) numbers
       → IsRound table (same_number (number_in numbers)) order next layouts → AreSettled table order numbers layouts
   settled_last numbers next layouts h r = settled numbers next layouts r (at_last numbers h) numbers (at_last numbers h)
 

@@ -1,26 +1,20 @@
-use Rattle.std.proofs.Common.{◌≡◌, ℕ, ◌+◌, ◌-◌, ◌*◌, ◌≤◌, Bool, true, false, List, [], ◌∷◌, ◌++◌, length, replicate, get_or, refl, ap, sym, subst, ◌∙◌, arith}
-use Rattle.std.specs.List.{Contains, repeat}
+use Rattle.std.proofs.Common.{◌≡◌, ℕ, ◌+◌, ◌-◌, Bool, true, false, List, [], ◌∷◌, ◌++◌, length, replicate, refl, ap, sym, subst, ◌∙◌, arith}
 use Rattle.std.proofs.lemmas.List.{append-nil, nil_from_length}
-use Rattle.std.proofs.lemmas.List.Elements.{All-contains}
 use Rattle.cc_base.specs.declared.number.TypeId.{TypeId}
 use Rattle.cc_base.specs.declared.number.NodeId.{NodeId}
-use Rattle.c_types.specs.declared.layout.Layout.{Layout as Measure}
 use Rattle.c_types.specs.declared.shape.TypeShape.{TypeShape}
-use Rattle.c_types.specs.declared.shape.TypeShape.TheVariants.{Void, Integer, Pointer, Array, Function, Struct, Union}
-use Rattle.c_types.specs.Table.{Table, shape_at, members_at, parts_at, parts_of_shape, is_complete_entry, IsComplete}
-use Rattle.c_types.specs.Layouts.{size_of, layout_of, layout_of_shape}
+use Rattle.c_types.specs.declared.shape.TypeShape.TheVariants.{Void, Integer, Pointer, Function, Struct, Union}
+use Rattle.c_types.specs.Table.{Table, shape_at, members_at}
+use Rattle.c_types.specs.Layouts.{size_of}
 use Rattle.c_types.specs.Cells.{raw, Relation, cells_of_shape, cells_at, holds_pointer, holds_in_shape}
 use Rattle.c_types.specs.Sound.{IsWellFormed}
-use Rattle.c_types.proofs.Lists.{contains_head}
-use Rattle.c_types.proofs.Descent.{layout_is}
-use Rattle.c_types.proofs.Cells.{cells_are, length_cells}
+use Rattle.c_types.proofs.Cells.{cells_are}
 use Rattle.phys_types.specs.declared.spot.Item.{Item}
 use Rattle.phys_types.specs.declared.spot.Item.TheVariants.{Pointer as pointer_item, Incomplete}
 use Rattle.phys_types.specs.declared.spot.Layout.{Layout}
 use Rattle.phys_types.specs.declared.spot.Spot.{Spot}
-use Rattle.phys_types.specs.Spots.{cells_from, item_cells, item_size, AreSpots, copies}
-use Rattle.phys_types.specs.Shown.{IsLayoutOf, IsMadeOf, ArePartsShown}
-use Rattle.phys_types.proofs.Spreading.{spots_copied, cells_copied, length_all}
+use Rattle.phys_types.specs.Spots.{cells_from, item_cells, item_size, AreSpots}
+use Rattle.phys_types.specs.Shown.{IsLayoutOf, IsMadeOf}
 use Rattle.phys_types.proofs.Structs.{holds_is}
 
 -- The layouts of types by their shapes.
@@ -63,17 +57,6 @@ module _ (table : Table) (w : IsWellFormed table) (E : Relation) (t : TypeId) (l
       made (Pointer node to) (members_at table t) 8 (record { start = 0; item = pointer_item node to } ∷ []) true e refl (omega arith, tt, omega arith)
       (one_item (pointer_item node to)) refl m
 
-  pub array_shown : (element : TypeId) (n : ℕ) (part : Layout) → shape_at table t ≡ Array element n → IsLayoutOf table E element part
-      → IsMadeOf (n * part.size) (copies n part.size 0 part.spots.items) part.holds layout → IsLayoutOf table E t layout
-  array_shown element n part e p m =
-      made (Array element n) (members_at table t) (n * part.size) (copies n part.size 0 part.spots.items) part.holds e refl
-      (subst (AreSpots (size_of table) 0 (copies n part.size 0 part.spots.items)) (zero_plus (n * part.size)) (spots_copied (size_of table) n part.size 0 part.spots.items p.spots))
-      (ap (cells_from 0 (copies n part.size 0 part.spots.items)) (sym (zero_plus (n * part.size))) ∙ cells_copied (size_of table) n part.size 0 part.spots.items p.spots ∙ ap (repeat n) p.cells)
-      p.holds m
-    where
-      zero_plus : (k : ℕ) → 0 + k ≡ k
-      zero_plus k = omega arith
-
   pub tag_shown : (tag : ℕ) → shape_at table t ≡ Struct tag → length (members_at table t) ≡ 0
       → IsMadeOf 1 (record { start = 0; item = Incomplete t } ∷ []) false layout → IsLayoutOf table E t layout
   tag_shown tag e f m = made (Struct tag) [] 1 (record { start = 0; item = Incomplete t } ∷ []) false e (nil_from_length (members_at table t) f) (omega arith, tt, omega arith) refl refl m
@@ -81,21 +64,3 @@ module _ (table : Table) (w : IsWellFormed table) (E : Relation) (t : TypeId) (l
   pub union_tag_shown : (tag : ℕ) → shape_at table t ≡ Union tag → length (members_at table t) ≡ 0
       → IsMadeOf 1 (record { start = 0; item = Incomplete t } ∷ []) false layout → IsLayoutOf table E t layout
   union_tag_shown tag e f m = made (Union tag) [] 1 (record { start = 0; item = Incomplete t } ∷ []) false e (nil_from_length (members_at table t) f) (omega arith, tt, omega arith) refl refl m
-
--- the element of an array has its layout
-pub element_shown : (table : Table) (E : Relation) (places : List ℕ) (built : List Layout) (t element : TypeId) (n : ℕ) (part : Layout) → shape_at table t ≡ Array element n
-    → ArePartsShown table E places built t → ((d : Layout) → part ≡ get_or built (get_or places element.0 0) d) → IsLayoutOf table E element part
-element_shown table E places built t element n part e h r =
-    subst (IsLayoutOf table E element) (sym (r part))
-    (h element part (subst (λ s. Contains (parts_of_shape s (members_at table t)) element) (sym e) (contains_head element [])))
-
-pub array_fits : (table : Table) → IsWellFormed table → (E : Relation) (t element : TypeId) (n : ℕ) (part : Layout) → shape_at table t ≡ Array element n
-    → IsLayoutOf table E element part → n * part.size ≤ 1048576
-array_fits table w E t element n part e p =
-    let P : TypeShape → Type 0 = λ s. (m : TypeId) → Contains (parts_of_shape s (members_at table t)) m → IsComplete table m in
-    let c : IsComplete table element = subst P e (λ m k. All-contains (IsComplete table) (parts_at table t) m (w.each t).parts k) element (contains_head element []) in
-    let own : is_complete_entry (shape_at table t) (members_at table t) ≡ true = ap (λ s. is_complete_entry s (members_at table t)) e in
-    let s : part.size ≡ size_of table element = sym (length_all (size_of table) part.spots.items part.size p.spots) ∙ ap length p.cells ∙ length_cells table w E element c in
-    let z : size_of table t ≡ n * size_of table element = ap (λ (l : Measure). l.size) (layout_is table w.order.0 w.order.1 t ∙ ap (λ s. layout_of_shape (layout_of table) s (members_at table t)) e) in
-    let m = (w.sized t own).most in
-    subst (λ k. n * k ≤ 1048576) (sym s) (omega arith)

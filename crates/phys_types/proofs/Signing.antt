@@ -1,5 +1,5 @@
 -- Types that look alike have one form, and what they point to has one number each.
-use Rattle.std.proofs.Common.{◌≡◌, ℕ, Bool, true, false, ◌⊎◌, inl, inr, List, [], ◌∷◌, ◌++◌, map, flat_map, ◌==◌, refl, ap, sym, ◌∙◌, true≢false}
+use Rattle.std.proofs.Common.{◌≡◌, ℕ, zero, suc, Bool, true, false, ◌&&◌, take, ◌⊎◌, inl, inr, List, [], ◌∷◌, ◌++◌, map, flat_map, ◌==◌, refl, ap, sym, ◌∙◌, true≢false}
 use Rattle.std.proofs.lemmas.Bool.Decides.{Decides-eqb, eqb_tells}
 use Rattle.std.proofs.lemmas.List.{map-append}
 use Rattle.std.proofs.lemmas.List.Concat.{flat_map-cons}
@@ -9,18 +9,18 @@ use Rattle.c_types.specs.declared.shape.TypeShape.{TypeShape}
 use Rattle.c_types.specs.declared.shape.TypeShape.TheVariants.{Void, Integer, Function, Array, Struct, Union}
 use Rattle.c_types.specs.declared.shape.TypeShape.TheVariants as shape
 use Rattle.c_types.specs.Table.{Table, shape_at, is_function_shape}
-use Rattle.c_types.specs.Cells.{Relation}
+use Rattle.c_types.specs.Cells.{Relation, cells_at}
+use Rattle.c_types.specs.Layouts.{size_of}
 use Rattle.c_types.specs.Equality.{Slot, nothing, integer, pointer_to, other, same_slot, same_bool, makeup_of, makeup_at, same_makeup}
 use Rattle.c_types.proofs.Shapes.{first_true, second_true}
 use Rattle.type_laws.proofs.Relations.{same_id}
 use Rattle.phys_types.specs.declared.spot.Item.{Item}
 use Rattle.phys_types.specs.declared.spot.Item.TheVariants.{Pointer, Mixed, Incomplete}
-use Rattle.phys_types.specs.declared.spot.Layout.{Layout}
 use Rattle.phys_types.specs.declared.spot.Spot.{Spot}
 use Rattle.phys_types.specs.Numbers.{same_number, same_item, same_spot, same_spots}
-use Rattle.phys_types.specs.Shown.{IsLayoutOf}
+use Rattle.phys_types.specs.Spots.{cells_from, AreSpots}
 use Rattle.phys_types.specs.Signatures.{mixed, mixed_all, item_form, spot_form, slot_form, bit, slot_in, form_of_shape, form_at, item_targets, slot_targets, targets_of_shape, targets_at}
-use Rattle.phys_types.proofs.Makeups.{pointwise_map, bytes_of, same_size_alike, other_size_apart}
+use Rattle.phys_types.proofs.Makeups.{pointwise_map, bytes_of, spots_alike, lengths_apart}
 
 never : {A : Type 0} → false ≡ true → A
 never h = absurd (true≢false (sym h))
@@ -43,6 +43,14 @@ module _ {A : Type 0} (E : A → A → Bool) where
       ap (map n) (flat_map-cons f x xs) ∙ map-append n (f x) (flat_map f xs)
       ∙ (λ i. e x y (first_true (E x y) _ h) i ++ pointwise_targets n f e xs ys (second_true (E x y) _ h) i)
       ∙ sym (map-append n (f y) (flat_map f ys)) ∙ ap (map n) (sym (flat_map-cons f y ys))
+
+-- the first elements are the same where all are
+pointwise_take : {A : Type 0} (E : A → A → Bool) (k : ℕ) (xs ys : List A) → pointwise E xs ys ≡ true → pointwise E (take k xs) (take k ys) ≡ true
+pointwise_take E zero xs ys h = refl
+pointwise_take E (suc k) [] [] h = refl
+pointwise_take E (suc k) [] (y ∷ ys) h = never h
+pointwise_take E (suc k) (x ∷ xs) [] h = never h
+pointwise_take E (suc k) (x ∷ xs) (y ∷ ys) h = λ i. first_true (E x y) _ h i && pointwise_take E k xs ys (second_true (E x y) _ h) i
 
 module _ (n : TypeId → ℕ) where
   one_number : (t u : TypeId) → same_number n t u ≡ true → map n (t ∷ []) ≡ map n (u ∷ [])
@@ -142,43 +150,44 @@ which (Function ps r) = inl (ps, r, refl)
 which (Struct g) = inr (not_code (Struct g) refl)
 which (Union g) = inr (not_code (Union g) refl)
 
-data_form : (table : Table) (x : Layout) (s : TypeShape) → IsData s → form_of_shape table s x ≡ mixed (mixed_all 2 spot_form x.spots.items) x.size
+data_form : (table : Table) (n : ℕ) (ss : List Spot) (s : TypeShape) → IsData s → form_of_shape table s n ss ≡ mixed (mixed_all 2 spot_form ss) n
 unfolding IsData
-data_form table x Void d = refl
-data_form table x (Integer b s) d = refl
-data_form table x (shape.Pointer m v) d = refl
-data_form table x (Array e c) d = refl
-data_form table x (Function ps r) d = absurd (d ps r refl)
-data_form table x (Struct g) d = refl
-data_form table x (Union g) d = refl
+data_form table n ss Void d = refl
+data_form table n ss (Integer b s) d = refl
+data_form table n ss (shape.Pointer m v) d = refl
+data_form table n ss (Array e c) d = refl
+data_form table n ss (Function ps r) d = absurd (d ps r refl)
+data_form table n ss (Struct g) d = refl
+data_form table n ss (Union g) d = refl
 
-data_targets : (table : Table) (x : Layout) (s : TypeShape) → IsData s → targets_of_shape table s x ≡ flat_map (λ p. item_targets p.item) x.spots.items
+data_targets : (table : Table) (ss : List Spot) (s : TypeShape) → IsData s → targets_of_shape table s ss ≡ flat_map (λ p. item_targets p.item) ss
 unfolding IsData
-data_targets table x Void d = refl
-data_targets table x (Integer b s) d = refl
-data_targets table x (shape.Pointer m v) d = refl
-data_targets table x (Array e c) d = refl
-data_targets table x (Function ps r) d = absurd (d ps r refl)
-data_targets table x (Struct g) d = refl
-data_targets table x (Union g) d = refl
+data_targets table ss Void d = refl
+data_targets table ss (Integer b s) d = refl
+data_targets table ss (shape.Pointer m v) d = refl
+data_targets table ss (Array e c) d = refl
+data_targets table ss (Function ps r) d = absurd (d ps r refl)
+data_targets table ss (Struct g) d = refl
+data_targets table ss (Union g) d = refl
 
-module _ (table : Table) (Z : Relation) (n : TypeId → ℕ) (t u : TypeId) (x y : Layout) (h : IsLayoutOf table Z t x) (k : IsLayoutOf table Z u y)
+module _ (table : Table) (Z : Relation) (n : TypeId → ℕ) (t u : TypeId) (i j limit : ℕ) (xs ys : List Spot)
+    (hs : AreSpots (size_of table) 0 xs i) (h : cells_from 0 xs i ≡ cells_at table Z t) (ks : AreSpots (size_of table) 0 ys j) (k : cells_from 0 ys j ≡ cells_at table Z u)
     (look : same_makeup (same_number n) (makeup_at table Z t) (makeup_at table Z u) ≡ true) where
   AreSigned : Type 0
-  AreSigned = (form_at table t x ≡ form_at table u y) × (map n (targets_at table t x) ≡ map n (targets_at table u y))
+  AreSigned = (form_at table t i (take limit xs) ≡ form_at table u j (take limit ys)) × (map n (targets_at table t (take limit xs)) ≡ map n (targets_at table u (take limit ys)))
 
   both_data : IsData (shape_at table t) → IsData (shape_at table u) → AreSigned
   unfolding AreSigned IsData
-  both_data d e = elim (eqb_tells x.size y.size) [
-    | inr m ↦ absurd (true≢false (sym (other_size_apart table Z n t u x y d e h k m.1 ∙ look)))
+  both_data d e = elim (eqb_tells i j) [
+    | inr m ↦ absurd (true≢false (sym (lengths_apart table Z n t u i j xs ys d e hs h ks k m.1 ∙ look)))
     | inl m ↦
-        let s = same_size_alike table Z n t u x y d e h k (same_spots n x.spots.items y.spots.items) m.1 refl ∙ look in (
-          data_form table x (shape_at table t) d
-              ∙ (λ i. mixed (pointwise_mixed (same_spot n) spot_form (spot_forms n) 2 x.spots.items y.spots.items s i) (m.1 i))
-              ∙ sym (data_form table y (shape_at table u) e),
-          ap (map n) (data_targets table x (shape_at table t) d)
-              ∙ pointwise_targets (same_spot n) n (λ p. item_targets p.item) (spots_targets n) x.spots.items y.spots.items s
-              ∙ ap (map n) (sym (data_targets table y (shape_at table u) e)),
+        let s = pointwise_take (same_spot n) limit xs ys (spots_alike table Z n t u i j xs ys d e hs h ks k (same_spots n xs ys) m.1 refl ∙ look) in (
+          data_form table i (take limit xs) (shape_at table t) d
+              ∙ (λ l. mixed (pointwise_mixed (same_spot n) spot_form (spot_forms n) 2 (take limit xs) (take limit ys) s l) (m.1 l))
+              ∙ sym (data_form table j (take limit ys) (shape_at table u) e),
+          ap (map n) (data_targets table (take limit xs) (shape_at table t) d)
+              ∙ pointwise_targets (same_spot n) n (λ p. item_targets p.item) (spots_targets n) (take limit xs) (take limit ys) s
+              ∙ ap (map n) (sym (data_targets table (take limit ys) (shape_at table u) e)),
         )
   ]
 
@@ -191,15 +200,15 @@ module _ (table : Table) (Z : Relation) (n : TypeId → ℕ) (t u : TypeId) (x y
       let l : pointwise (same_slot (same_number n)) (map (slot_in table) (r ∷ ps)) (map (slot_in table) (s ∷ qs)) ≡ true =
       sym (λ i. same_makeup (same_number n) (makeup_of table Z t (d i)) (makeup_of table Z u (e i))) ∙ look in
       let m : pointwise same (r ∷ ps) (s ∷ qs) ≡ true = sym (pointwise_map (same_slot (same_number n)) (slot_in table) (r ∷ ps) (s ∷ qs)) ∙ l in (
-        (λ i. form_of_shape table (d i) x)
+        (λ l. form_of_shape table (d l) i (take limit xs))
             ∙ pointwise_mixed same (λ p. slot_form (slot_in table p)) (λ p q. slot_forms n (slot_in table p) (slot_in table q)) 1 (r ∷ ps) (s ∷ qs) m
-            ∙ sym (λ i. form_of_shape table (e i) y),
-        (λ i. map n (targets_of_shape table (d i) x))
+            ∙ sym (λ l. form_of_shape table (e l) j (take limit ys)),
+        (λ l. map n (targets_of_shape table (d l) (take limit xs)))
             ∙ pointwise_targets same n (λ p. slot_targets (slot_in table p)) (λ p q. slots_targets n (slot_in table p) (slot_in table q)) (r ∷ ps) (s ∷ qs) m
-            ∙ sym (λ i. map n (targets_of_shape table (e i) y)),
+            ∙ sym (λ l. map n (targets_of_shape table (e l) (take limit ys))),
       )
 
-  pub signed : (form_at table t x ≡ form_at table u y) × (map n (targets_at table t x) ≡ map n (targets_at table u y))
+  pub signed : (form_at table t i (take limit xs) ≡ form_at table u j (take limit ys)) × (map n (targets_at table t (take limit xs)) ≡ map n (targets_at table u (take limit ys)))
   unfolding AreSigned IsCode IsData
   signed = by (which (shape_at table t)) (which (shape_at table u))
     where

@@ -12,17 +12,18 @@ use Rattle.c_types.specs.Cells.{Relation, same_type}
 use Rattle.c_types.specs.Equality.{physically_equal, made_alike, within}
 use Rattle.c_types.specs.Sound.{IsWellFormed}
 use Rattle.type_laws.proofs.Levels.{widest}
-use Rattle.phys_types.specs.declared.spot.Layout.{Layout}
+use Rattle.phys_types.specs.declared.keeping.Repeated.{Repeated}
 use Rattle.phys_types.specs.Numbers.{number_in, same_number}
 use Rattle.phys_types.specs.Orders.{IsWholeOrder}
 use Rattle.phys_types.specs.Refining.{IsCoarser, IsWide}
 use Rattle.phys_types.specs.Rounds.{AreShown, AreStable, AreSettled}
-use Rattle.phys_types.specs.Shown.{IsLayoutOf, IsKept}
-use Rattle.phys_types.specs.Signatures.{mixed, form_at, targets_at}
+use Rattle.phys_types.specs.Shown.{all_size, all_spots, IsKeptOf, IsKept}
+use Rattle.phys_types.specs.Signatures.{mixed, front_form, front_targets}
 use Rattle.phys_types.specs.Turning.{list_in, RespectEqual}
 use Rattle.std.specs.Prelude.{Vec}
 use Rattle.std.specs.Global.{Global}
 use Rattle.phys_types.proofs.Agreeing.{made_agree}
+use Rattle.phys_types.proofs.Kept.{kept_spots}
 use Rattle.phys_types.proofs.Refined.{equal_look, wide_numbers}
 use Rattle.phys_types.proofs.Settled.{within_is, shown_agree}
 use Rattle.phys_types.proofs.Signing.{signed}
@@ -31,65 +32,70 @@ use Rattle.phys_types.proofs.Unions.{same_answer}
 use Rattle.phys_types.proofs.Viewing.{order_closed, place_of}
 
 -- one more layout is shown
-pub shown_more : (table : Table) (E : Relation) (order : List TypeId) (i : ℕ) (d : TypeId) (layouts more : List Layout) (layout : Layout) → i < length order → length layouts ≡ i
-    → more ≡ layouts ++ layout ∷ [] → IsLayoutOf table E (get_or order i d) layout → AreShown table E order layouts → AreShown table E order more
+pub shown_more : (table : Table) (E : Relation) (order : List TypeId) (i : ℕ) (d : TypeId) (layouts more : List Repeated) (layout : Repeated) → i < length order → length layouts ≡ i
+    → more ≡ layouts ++ layout ∷ [] → IsKeptOf table E (get_or order i d) layout → AreShown table E order layouts → AreShown table E order more
 shown_more table E order i d layouts more layout l f m h s k e x b = elim (cases_lt k i) [
   | inl c ↦
-      subst (λ xs. IsLayoutOf table E (get_or order k e) (get_or xs k x)) (sym m)
-      (subst (IsLayoutOf table E (get_or order k e)) (sym (get_or_append_left layouts (layout ∷ []) x k (omega arith))) (s k e x (omega arith)))
+      subst (λ xs. IsKeptOf table E (get_or order k e) (get_or xs k x)) (sym m)
+      (subst (IsKeptOf table E (get_or order k e)) (sym (get_or_append_left layouts (layout ∷ []) x k (omega arith))) (s k e x (omega arith)))
   | inr c ↦
       let g : i ≡ k = (let z = ap length m ∙ length_push layouts layout in omega arith) in
-      subst (λ j. IsLayoutOf table E (get_or order j e) (get_or more j x)) g
-      (subst (λ u. IsLayoutOf table E u (get_or more i x)) (get_or_default order i d e l)
-      (subst (λ xs. IsLayoutOf table E (get_or order i d) (get_or xs i x)) (sym m)
-      (subst (IsLayoutOf table E (get_or order i d)) (sym (get_or_push layouts layout x i f)) h)))
+      subst (λ j. IsKeptOf table E (get_or order j e) (get_or more j x)) g
+      (subst (λ u. IsKeptOf table E u (get_or more i x)) (get_or_default order i d e l)
+      (subst (λ xs. IsKeptOf table E (get_or order i d) (get_or xs i x)) (sym m)
+      (subst (IsKeptOf table E (get_or order i d)) (sym (get_or_push layouts layout x i f)) h)))
 ]
 
 module _ (table : Table) (w : IsWellFormed table) (order : List TypeId) (places : List ℕ) (o : IsWholeOrder table order places) where
-  module _ (layouts : List Layout) (all : length layouts ≡ length order) where
+  module _ (layouts : List Repeated) (all : length layouts ≡ length order) where
     pub all_kept : (t : TypeId) → IsType table t → IsKept places layouts t
     all_kept t h = let p = place_of table order places o t h in let f = o.right.fits in (omega arith, let e = p.3 in let l = p.1 in omega arith)
 
-    abbrev at : Layout → TypeId → Layout
+    abbrev at : Repeated → TypeId → Repeated
     at d t = get_or layouts (get_or places t.0 0) d
 
-    shown_at : (E : Relation) → AreShown table E order layouts → (d : Layout) (t : TypeId) → IsType table t → IsLayoutOf table E t (at d t)
+    shown_at : (E : Relation) → AreShown table E order layouts → (d : Repeated) (t : TypeId) → IsType table t → IsKeptOf table E t (at d t)
     shown_at E s d t h =
         let p = place_of table order places o t h in
-        subst (λ n. IsLayoutOf table E t (get_or layouts n d)) (sym p.3)
-        (subst (λ u. IsLayoutOf table E u (get_or layouts p.0 d)) p.2 (s p.0 t d (let l = p.1 in omega arith)))
+        subst (λ n. IsKeptOf table E t (get_or layouts n d)) (sym p.3)
+        (subst (λ u. IsKeptOf table E u (get_or layouts p.0 d)) p.2 (s p.0 t d (let l = p.1 in omega arith)))
 
-    some : (ls : List Layout) → 0 < length ls → Layout
+    some : (ls : List Repeated) → 0 < length ls → Repeated
     some [] h = absurd (omega arith)
     some (x ∷ ls) h = x
 
-    one : (t : TypeId) → IsType table t → Layout
+    one : (t : TypeId) → IsType table t → Repeated
     one t h = some layouts (let p = place_of table order places o t h in let l = p.1 in omega arith)
 
-    module _ (E : Relation) (wide : IsWide table E) (s : AreShown table E order layouts) where
-      pub respects : (targets : List (Vec TypeId Global)) → ((d : Layout) (t : TypeId) → IsType table t → list_in targets t ≡ targets_at table t (get_or layouts (get_or places t.0 0) d))
+    module _ (E : Relation) (wide : IsWide table E) (s : AreShown table E order layouts) (limit : ℕ) where
+      -- physically equal types look alike by their first spots
+      fronts_alike : (ns : List ℕ) → IsCoarser table ns → (d : Repeated) (t u : TypeId) → IsType table t → IsType table u → IsTrue (physically_equal table t u)
+          → (front_form table limit t (at d t) ≡ front_form table limit u (at d u))
+          × (map (number_in ns) (front_targets table limit t (at d t)) ≡ map (number_in ns) (front_targets table limit u (at d u)))
+      fronts_alike ns c d t u a b h =
+          let x = shown_at E s d t a in
+          let y = shown_at E s d u b in
+          signed table E (number_in ns) t u (all_size (at d t)) (all_size (at d u)) limit (all_spots (at d t)) (all_spots (at d u))
+          (kept_spots table E t (at d t) x) x.cells (kept_spots table E u (at d u) y) y.cells
+          (equal_look table w E (same_number (number_in ns)) wide (wide_numbers table w ns c) t u h)
+
+      pub respects : (targets : List (Vec TypeId Global)) → ((d : Repeated) (t : TypeId) → IsType table t → list_in targets t ≡ front_targets table limit t (get_or layouts (get_or places t.0 0) d))
           → RespectEqual table targets
       respects targets r ns c t u a b h =
           let d = one t a in
-          ap (λ xs. map (number_in ns) xs) (r d t a)
-          ∙ (signed table E (number_in ns) t u (at d t) (at d u) (shown_at E s d t a) (shown_at E s d u b)
-          (equal_look table w E (same_number (number_in ns)) wide (wide_numbers table w ns c) t u h)).1
-          ∙ ap (λ xs. map (number_in ns) xs) (sym (r d u b))
+          ap (λ xs. map (number_in ns) xs) (r d t a) ∙ (fronts_alike ns c d t u a b h).1 ∙ ap (λ xs. map (number_in ns) xs) (sym (r d u b))
 
       pub coarser_forms : (numbers forms : List ℕ) → IsCoarser table numbers
-          → ((d : Layout) (t : TypeId) → IsType table t → number_in forms t ≡ mixed (number_in numbers t) (form_at table t (get_or layouts (get_or places t.0 0) d)))
+          → ((d : Repeated) (t : TypeId) → IsType table t → number_in forms t ≡ mixed (number_in numbers t) (front_form table limit t (get_or layouts (get_or places t.0 0) d)))
           → IsCoarser table forms
       coarser_forms numbers forms c r = coarser_by table w forms (number_in forms) (λ u l. refl) (λ t u a b h.
           let d = one t a in
-          r d t a
-          ∙ (λ i. mixed (one_number t u h i) ((signed table E (number_in numbers) t u (at d t) (at d u) (shown_at E s d t a) (shown_at E s d u b)
-          (equal_look table w E (same_number (number_in numbers)) wide (wide_numbers table w numbers c) t u h)).0 i))
-          ∙ sym (r d u b))
+          r d t a ∙ (λ i. mixed (one_number t u h i) ((fronts_alike numbers c d t u a b h).0 i)) ∙ sym (r d u b))
         where
           one_number : (t u : TypeId) → IsTrue (physically_equal table t u) → number_in numbers t ≡ number_in numbers u
           one_number t u h = (Decides-eqb (number_in numbers t) (number_in numbers u)).0 (c t u h)
 
-  module _ (numbers : List ℕ) (layouts : List Layout) (all : length layouts ≡ length order) (shown : AreShown table (same_number (number_in numbers)) order layouts)
+  module _ (numbers : List ℕ) (layouts : List Repeated) (all : length layouts ≡ length order) (shown : AreShown table (same_number (number_in numbers)) order layouts)
       (c : IsCoarser table numbers) (stable : AreStable table order numbers) where
     abbrev N : Relation
     N = same_number (number_in numbers)

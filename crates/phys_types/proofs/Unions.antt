@@ -1,7 +1,7 @@
 use Rattle.std.proofs.Common.{◌≡◌, ℕ, ◌+◌, ◌-◌, ◌<◌, ◌≤◌, Bool, true, false, ◌&&◌, ◌||◌, if◌then◌else◌, List, [], ◌∷◌, ◌++◌, length, get_or, take, map, replicate, nat_lt, nat_le, refl, ap, sym, subst, ◌∙◌, true≢false, arith}
 use Rattle.std.specs.List.{All, fold, list_all, list_any, range_with_len}
 use Rattle.std.proofs.lemmas.Bool.{ltb-true, ltb-false, lt-ltb, leb-true, le-leb}
-use Rattle.std.proofs.lemmas.List.{take_more, append-nil}
+use Rattle.std.proofs.lemmas.List.{take_more, append-nil, map-append}
 use Rattle.std.proofs.lemmas.List.Elements.{All-contains}
 use Rattle.cc_base.specs.declared.number.TypeId.{TypeId}
 use Rattle.c_types.specs.declared.shape.TypeShape.{TypeShape}
@@ -39,6 +39,10 @@ union_tag (Pointer n t) h = absurd (true≢false (sym h))
 union_tag (Array e n) h = absurd (true≢false (sym h))
 union_tag (Function ps r) h = absurd (true≢false (sym h))
 union_tag (Struct t) h = absurd (true≢false (sym h))
+
+-- one element more
+pub map_more : {A B : Type 0} (f : A → B) (xs : List A) (i : ℕ) (d : A) → i < length xs → map f (take (i + 1) xs) ≡ map f (take i xs) ++ f (get_or xs i d) ∷ []
+map_more f xs i d l = ap (map f) (take_more xs i d l) ∙ map-append f (take i xs) (get_or xs i d ∷ [])
 
 -- one layout more
 layouts_push : (table : Table) (E : Relation) (ms : List TypeId) (ps : List Layout) (m : TypeId) (p : Layout) → AreLayoutsOf table E ms ps → IsLayoutOf table E m p

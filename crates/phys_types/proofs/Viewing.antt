@@ -1,6 +1,5 @@
 use Rattle.std.proofs.Common.{◌≡◌, ℕ, ◌<◌, Bool, true, false, ◌&&◌, ◌||◌, if◌then◌else◌, nat_lt, List, length, get_or, refl, ap, sym, subst, ◌∙◌, true≢false, arith}
 use Rattle.std.specs.List.{Contains}
-use Rattle.std.proofs.lemmas.List.{get_or_default}
 use Rattle.std.proofs.lemmas.List.Elements.{All-contains}
 use Rattle.cc_base.specs.declared.number.TypeId.{TypeId}
 use Rattle.std.specs.Int.{IsGcd}
@@ -10,15 +9,17 @@ use Rattle.c_types.specs.Table.{Table, IsType, is_function}
 use Rattle.c_types.specs.Equality.{physically_equal, begins_with}
 use Rattle.c_types.specs.Flows.{flow_class}
 use Rattle.c_types.specs.Sound.{IsWellFormed}
+use Rattle.phys_types.specs.declared.keeping.Repeated.{Repeated}
 use Rattle.phys_types.specs.declared.spot.Layout.{Layout}
 use Rattle.phys_types.specs.Numbers.{number_in, same_number, repeat_spots}
 use Rattle.phys_types.specs.Orders.{IsWholeOrder}
 use Rattle.phys_types.specs.Reach.{IsClosed}
 use Rattle.phys_types.specs.Rounds.{AreSettled, AreAllKept}
-use Rattle.phys_types.specs.Shown.{IsLayoutOf, IsKept, begins_spots}
+use Rattle.phys_types.specs.Shown.{IsLayoutOf, IsKeptOf, IsKept, begins_spots}
 use Rattle.phys_types.specs.Views.{IsPair}
 use Rattle.phys_types.proofs.Makeups.{not_equal}
 use Rattle.phys_types.proofs.Periods.{some_gcd}
+use Rattle.phys_types.proofs.RoundLemmas.{all_low}
 use Rattle.phys_types.proofs.Classes.{types_closed, begins_right, tile_right, tile_one_way, function_class, bad_class, up_class, down_class}
 
 -- Two types of a settled table.
@@ -38,29 +39,30 @@ module _ (table : Table) (order : List TypeId) (places : List ℕ) (o : IsWholeO
       let c = o.whole t h in
       (c.0, c.1, c.2, ap (λ (u : TypeId). get_or places u.0 0) (sym c.2) ∙ o.right.placed c.0 t c.1)
 
-  module _ (numbers : List ℕ) (layouts : List Layout) (s : AreSettled table order numbers layouts) where
+  module _ (numbers : List ℕ) (layouts : List Repeated) (s : AreSettled table order numbers layouts) where
     pub kept_in : (t : TypeId) → IsType table t → IsKept places layouts t
     kept_in t h = let p = place_of t h in let f = o.right.fits in let a = s.all in (omega arith, let e = p.3 in let l = p.1 in omega arith)
 
-    pub layout_in : (t : TypeId) (x : Layout) → IsType table t → ((d : Layout) → x ≡ get_or layouts (get_or places t.0 0) d) → IsLayoutOf table (physically_equal table) t x
-    layout_in t x h r =
+    pub kept_is : (t : TypeId) (d : Repeated) → IsType table t → IsKeptOf table (physically_equal table) t (get_or layouts (get_or places t.0 0) d)
+    kept_is t d h =
         let p = place_of t h in
-        subst (IsLayoutOf table (physically_equal table) t) (sym (r x ∙ ap (λ n. get_or layouts n x) p.3))
-        (subst (λ u. IsLayoutOf table (physically_equal table) u (get_or layouts p.0 x)) p.2
-        (s.shown (physically_equal table) (λ a b c d. refl) p.0 t x (let a = s.all in let l = p.1 in omega arith)))
+        subst (λ n. IsKeptOf table (physically_equal table) t (get_or layouts n d)) (sym p.3)
+        (subst (λ u. IsKeptOf table (physically_equal table) u (get_or layouts p.0 d)) p.2
+        (s.shown (physically_equal table) (λ a b c e. refl) p.0 t d (let a = s.all in let l = p.1 in omega arith)))
 
-    pub all_kept : AreAllKept table places layouts
-    all_kept = record { kept = kept_in; shown = λ t d h. layout_in t (get_or layouts (get_or places t.0 0) d) h (λ e. same t d e h) }
-      where
-        same : (t : TypeId) (d e : Layout) → IsType table t → get_or layouts (get_or places t.0 0) d ≡ get_or layouts (get_or places t.0 0) e
-        same t d e h = get_or_default layouts (get_or places t.0 0) d e (kept_in t h).1
+    pub all_kept : IsWellFormed table → AreAllKept table places layouts
+    all_kept w = record {
+      kept = kept_in;
+      low = all_low table w order places o.right (physically_equal table) layouts (s.shown (physically_equal table) (λ a b c e. refl));
+      shown = kept_is;
+    }
 
-    pub pair_in : (t u : TypeId) (x y : Layout) → IsType table t → IsType table u → ((d : Layout) → x ≡ get_or layouts (get_or places t.0 0) d)
-        → ((d : Layout) → y ≡ get_or layouts (get_or places u.0 0) d) → IsPair table (number_in numbers) t x u y
+    pub pair_in : (t u : TypeId) (x y : Layout) → IsType table t → IsType table u → IsLayoutOf table (physically_equal table) t x
+        → IsLayoutOf table (physically_equal table) u y → IsPair table (number_in numbers) t x u y
     pair_in t u x y h k a b = record {
       equal = λ v z p q. s.equal v z (o.whole v p) (o.whole z q);
-      first = layout_in t x h a;
-      second = layout_in u y k b;
+      first = a;
+      second = b;
     }
 
 -- ---- the answers

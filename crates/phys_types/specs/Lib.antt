@@ -2,6 +2,7 @@ pub mod Spots
 pub mod Numbers
 pub mod Reach
 pub mod Shown
+pub mod Lending
 pub mod Rounds
 pub mod Refining
 pub mod Signatures

@@ -1,4 +1,4 @@
-use Rattle.std.specs.Prelude.{◌≡◌, ℕ, ◌<◌, ◌≤◌, Bool, true, false, ◌&&◌, List, [], ◌∷◌, length, slice_index_or, nat_le, nat_lt, if◌then◌else◌, IsTrue, ⊤}
+use Rattle.std.specs.Prelude.{◌≡◌, ℕ, ◌*◌, ◌<◌, ◌≤◌, ◌⊎◌, Bool, true, false, ◌&&◌, List, [], ◌∷◌, length, slice_index_or, nat_le, nat_lt, if◌then◌else◌, IsTrue, ⊤}
 use Rattle.std.specs.List.{All, Contains, fold, list_all, list_any}
 use Rattle.cc_base.specs.declared.number.TypeId.{TypeId}
 use Rattle.c_types.specs.declared.shape.TypeShape.{TypeShape}
@@ -6,8 +6,9 @@ use Rattle.c_types.specs.declared.shape.TypeShape.TheVariants.{Struct}
 use Rattle.c_types.specs.Table.{Table, shape_at, parts_at}
 use Rattle.c_types.specs.Layouts.{size_of}
 use Rattle.c_types.specs.Cells.{Relation, cells_at, holds_pointer}
+use Rattle.phys_types.specs.declared.keeping.Repeated.{Repeated}
 use Rattle.phys_types.specs.declared.spot.Layout.{Layout}
-use Rattle.phys_types.specs.Spots.{cells_from, AreSpots}
+use Rattle.phys_types.specs.Spots.{cells_from, AreSpots, copies}
 use Rattle.phys_types.specs.declared.spot.Item.TheVariants.{Mixed}
 use Rattle.phys_types.specs.declared.spot.Spot.{Spot}
 use Rattle.phys_types.specs.Numbers.{AreLow, begin_with_spots}
@@ -24,18 +25,37 @@ pub record IsLayoutOf (table : Table) (E : Relation) (t : TypeId) (layout : Layo
 abbrev pub IsLow : Layout → Type 0
 IsLow layout = AreLow layout.spots.items × (layout.size ≤ 1048576)
 
--- a layout is kept at the place of t
-abbrev pub IsKept : List ℕ → List Layout → TypeId → Type 0
+-- all copies of what is kept
+
+abbrev pub all_size : Repeated → ℕ
+all_size k = k.count * k.part.size
+
+abbrev pub all_spots : Repeated → List Spot
+all_spots k = copies k.count k.part.size 0 k.part.spots.items
+
+-- the copies show the cells of t
+pub record IsKeptOf (table : Table) (E : Relation) (t : TypeId) (k : Repeated) : Type 0 where
+  pub some : 0 < k.count
+  pub spots : AreSpots (size_of table) 0 k.part.spots.items k.part.size
+  pub cells : cells_from 0 (all_spots k) (all_size k) ≡ cells_at table E t
+  pub holds : k.part.holds ≡ holds_pointer table t
+
+-- all copies are no larger than a type can be
+abbrev pub IsLowKept : Repeated → Type 0
+IsLowKept k = IsLow k.part × (k.count * k.part.size ≤ 1048576)
+
+-- what is kept at the place of t
+abbrev pub IsKept : List ℕ → List Repeated → TypeId → Type 0
 IsKept places built t = (t.0 < length places) × (slice_index_or places t.0 0 < length built)
 
 -- the parts of t have their layouts
-abbrev pub ArePartsKept : Table → List ℕ → List Layout → TypeId → Type 0
+abbrev pub ArePartsKept : Table → List ℕ → List Repeated → TypeId → Type 0
 ArePartsKept table places built t = All (IsKept places built) (parts_at table t)
 
 -- the layouts of the parts of t are right
-abbrev pub ArePartsShown : Table → Relation → List ℕ → List Layout → TypeId → Type 0
+abbrev pub ArePartsShown : Table → Relation → List ℕ → List Repeated → TypeId → Type 0
 ArePartsShown table E places built t =
-    (p : TypeId) (d : Layout) → Contains (parts_at table t) p → IsLayoutOf table E p (slice_index_or built (slice_index_or places p.0 0) d)
+    (p : TypeId) (d : Repeated) → Contains (parts_at table t) p → IsKeptOf table E p (slice_index_or built (slice_index_or places p.0 0) d)
 
 abbrev pub is_struct_shape : TypeShape → Bool
 is_struct_shape (Struct tag) = true
@@ -78,3 +98,9 @@ pub record IsMadeOf (size : ℕ) (spots : List Spot) (holds : Bool) (layout : La
   pub size_is : layout.size ≡ size
   pub spots_are : layout.spots.items ≡ spots
   pub holds_are : layout.holds ≡ holds
+
+-- n copies of x are kept: as they are, or as a part and a count
+abbrev pub IsTimes : ℕ → Layout → Repeated → Type 0
+IsTimes n x k =
+    ((k.count ≡ n) × IsMadeOf x.size x.spots.items x.holds k.part)
+    ⊎ ((k.count ≡ 1) × IsMadeOf (n * x.size) (copies n x.size 0 x.spots.items) x.holds k.part)

@@ -1,4 +1,4 @@
-use Rattle.std.specs.Prelude.{ℕ, ◌+◌, ◌*◌, ◌%◌, ◌^◌, Bool, List, [], ◌∷◌, flat_map, if◌then◌else◌}
+use Rattle.std.specs.Prelude.{ℕ, ◌+◌, ◌*◌, ◌%◌, ◌^◌, Bool, List, [], ◌∷◌, take, flat_map, if◌then◌else◌}
 use Rattle.std.specs.List.{fold}
 use Rattle.cc_base.specs.declared.number.TypeId.{TypeId}
 use Rattle.c_types.specs.declared.shape.TypeShape.{TypeShape}
@@ -7,8 +7,9 @@ use Rattle.c_types.specs.Table.{Table, shape_at}
 use Rattle.c_types.specs.Equality.{Slot, nothing, integer, pointer_to, other, slot_of}
 use Rattle.phys_types.specs.declared.spot.Item.{Item}
 use Rattle.phys_types.specs.declared.spot.Item.TheVariants.{Pointer, Mixed, Incomplete}
-use Rattle.phys_types.specs.declared.spot.Layout.{Layout}
 use Rattle.phys_types.specs.declared.spot.Spot.{Spot}
+use Rattle.phys_types.specs.declared.keeping.Repeated.{Repeated}
+use Rattle.phys_types.specs.Shown.{all_size, all_spots}
 
 -- What types that are made alike share, in numbers.
 
@@ -42,13 +43,13 @@ slot_form (other t) = 4
 abbrev pub slot_in : Table → TypeId → Slot
 slot_in table p = slot_of p (shape_at table p)
 
-abbrev pub form_of_shape : Table → TypeShape → Layout → ℕ
-form_of_shape table (Function ps r) x = mixed_all 1 (λ p. slot_form (slot_in table p)) (r ∷ ps)
-form_of_shape table shape x = mixed (mixed_all 2 spot_form x.spots.items) x.size
+abbrev pub form_of_shape : Table → TypeShape → ℕ → List Spot → ℕ
+form_of_shape table (Function ps r) n ss = mixed_all 1 (λ p. slot_form (slot_in table p)) (r ∷ ps)
+form_of_shape table shape n ss = mixed (mixed_all 2 spot_form ss) n
 
--- a number that types share that are made alike
-abbrev pub form_at : Table → TypeId → Layout → ℕ
-form_at table t x = form_of_shape table (shape_at table t) x
+-- a number that types share that are made alike, by the number of their cells and their first spots
+abbrev pub form_at : Table → TypeId → ℕ → List Spot → ℕ
+form_at table t n ss = form_of_shape table (shape_at table t) n ss
 
 -- what it points to, in order
 
@@ -61,9 +62,17 @@ slot_targets (pointer_to t) = t ∷ []
 slot_targets (other t) = t ∷ []
 slot_targets slot = []
 
-abbrev pub targets_of_shape : Table → TypeShape → Layout → List TypeId
-targets_of_shape table (Function ps r) x = flat_map (λ p. slot_targets (slot_in table p)) (r ∷ ps)
-targets_of_shape table shape x = flat_map (λ s. item_targets s.item) x.spots.items
+abbrev pub targets_of_shape : Table → TypeShape → List Spot → List TypeId
+targets_of_shape table (Function ps r) ss = flat_map (λ p. slot_targets (slot_in table p)) (r ∷ ps)
+targets_of_shape table shape ss = flat_map (λ s. item_targets s.item) ss
 
-abbrev pub targets_at : Table → TypeId → Layout → List TypeId
-targets_at table t x = targets_of_shape table (shape_at table t) x
+abbrev pub targets_at : Table → TypeId → List Spot → List TypeId
+targets_at table t ss = targets_of_shape table (shape_at table t) ss
+
+-- both of what is kept of t, by its first spots, as many as the limit says
+
+abbrev pub front_form : Table → ℕ → TypeId → Repeated → ℕ
+front_form table limit t k = form_at table t (all_size k) (take limit (all_spots k))
+
+abbrev pub front_targets : Table → ℕ → TypeId → Repeated → List TypeId
+front_targets table limit t k = targets_at table t (take limit (all_spots k))

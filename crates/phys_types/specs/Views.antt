@@ -2,6 +2,7 @@ use Rattle.std.specs.Prelude.{◌≡◌, ℕ, List}
 use Rattle.cc_base.specs.declared.number.TypeId.{TypeId}
 use Rattle.c_types.specs.Table.{Table, IsType}
 use Rattle.c_types.specs.Equality.{physically_equal}
+use Rattle.phys_types.specs.declared.keeping.Repeated.{Repeated}
 use Rattle.phys_types.specs.declared.spot.Layout.{Layout}
 use Rattle.c_types.specs.Sound.{IsWellFormed}
 use Rattle.phys_types.specs.Numbers.{same_number}
@@ -16,7 +17,7 @@ pub record IsPair (table : Table) (number : TypeId → ℕ) (t : TypeId) (x : La
   pub second : IsLayoutOf table (physically_equal table) u y
 
 -- What is kept of all types of a table: they are in order, their numbers tell physical equality, and their layouts are under it.
-pub record IsKnown (table : Table) (order : List TypeId) (places numbers : List ℕ) (layouts : List Layout) : Type 0 where
+pub record IsKnown (table : Table) (order : List TypeId) (places numbers : List ℕ) (layouts : List Repeated) : Type 0 where
   pub formed : IsWellFormed table
   pub whole : IsWholeOrder table order places
   pub settled : AreSettled table order numbers layouts

@@ -1,31 +1,52 @@
-//! The layouts of types, each from those of its parts.
+//! What is kept of the layouts of types, each from those of its parts.
 #![tactic(auto)]
 
-ghost use Rattle.std.specs.Prelude.{ℕ, ◌≡◌, ◌<◌, ◌≤◌, ◌*◌, length, slice_index_or, IfOk, true, false, map, List, [], ◌∷◌};
+ghost use Rattle.std.specs.Prelude.{ℕ, ◌≡◌, ◌≢◌, ◌<◌, ◌≤◌, length, slice_index_or, IfOk, true, false, map, List, [], ◌∷◌};
 ghost use Rattle.std.specs.List.{All, Contains, list_all, list_any, fold};
 ghost use Rattle.cc_base.specs.declared.number.TypeId.{TypeId};
-ghost use Rattle.c_types.specs.Table.{IsType, IsComplete, IsAggregate, IsUnion, shape_at, members_at, parts_at};
+ghost use Rattle.c_types.specs.declared.shape.TypeShape.TheVariants.{Array};
+ghost use Rattle.c_types.specs.Table.{Table, IsType, IsComplete, IsAggregate, IsUnion, shape_at, members_at, parts_at};
 ghost use Rattle.c_types.specs.Cells.{Relation, cells_at, holds_pointer};
 ghost use Rattle.c_types.specs.Sound.{IsWellFormed};
-ghost use Rattle.phys_types.specs.declared.spot.Layout.{Layout};
+ghost use Rattle.phys_types.specs.declared.keeping.Repeated.{Repeated};
+ghost use Rattle.phys_types.specs.Lending.{lent_layout};
 ghost use Rattle.phys_types.specs.Numbers.{number_in, same_number};
-ghost use Rattle.phys_types.specs.Spots.{item_size, copies};
-ghost use Rattle.phys_types.specs.Shown.{IsStruct, IsLayoutOf, IsLow, IsKept, ArePartsKept, ArePartsShown, AreLayoutsOf, larger, begins_spots, IsUnionOf, IsMadeOf};
+ghost use Rattle.phys_types.specs.Spots.{item_size};
+ghost use Rattle.phys_types.specs.Shown.{IsStruct, IsLayoutOf, IsLowKept, IsKept, IsKeptOf, ArePartsKept, ArePartsShown, AreLayoutsOf, larger, begins_spots, IsUnionOf, IsMadeOf};
 
 use crate::comparing::begins;
-use crate::copying::{copied, push_shifted};
+use crate::copying::push_shifted;
+use crate::keeping::{Repeated, kept_times};
+use crate::lending::{Lent, lend};
 use crate::spot::{Item, Layout, Spot};
 use c_types::{TypeShape, Types};
 use cc_base::{NoMemory, TypeId};
 use std::alloc::Global;
 
-/// The layout that is kept of a type.
-pub(crate) fn kept<'a>(places: &[usize], built: &'a [Layout], t: TypeId) -> &'a Layout
+/// What is kept of a type.
+pub(crate) fn kept<'a>(places: &[usize], built: &'a [Repeated], t: TypeId) -> &'a Repeated
     requires { IsKept places.now built.now t }
-    ensures { (d : Layout) → result.now ≡ slice_index_or built.now
+    ensures { (d : Repeated) → result.now ≡ slice_index_or built.now
         (slice_index_or places.now t.0 0) d }
 {
     &built[places[t.0 as usize]]
+}
+
+/// The layout of a type.
+pub(crate) fn lend_type<'a>(
+    alloc: Global,
+    places: &[usize],
+    built: &'a [Repeated],
+    t: TypeId,
+) -> Result<Lent<'a>, NoMemory>
+    requires kept { IsKept places.now built.now t }
+    requires low { All IsLowKept built.now }
+    ensures { (table : Table) (E : Relation) (u : TypeId)
+        → ((d : Repeated) → IsKeptOf table E u
+        (slice_index_or built.now (slice_index_or places.now t.0 0) d))
+        → IfOk result (λ lent. IsLayoutOf table E u (lent_layout lent)) }
+{
+    lend(alloc, kept(places, built, t))
 }
 
 /// A layout of raw cells alone.
@@ -53,26 +74,12 @@ fn item_layout(alloc: Global, item: Item, holds: bool) -> Result<Layout, NoMemor
     })
 }
 
-/// The layout of an array, from its element's.
-fn array_layout(alloc: Global, element: &Layout, count: u64) -> Result<Layout, NoMemory>
-    requires low { IsLow element.now }
-    requires small { count * element.now.size ≤ 1048576 }
-    ensures { IfOk result (IsMadeOf (count * element.now.size)
-        (copies count element.now.size 0 element.now.spots.items) element.now.holds) }
-{
-    Ok(Layout {
-        size: count * element.size,
-        spots: copied(alloc, &element.spots, element.size, count)?,
-        holds: element.holds,
-    })
-}
-
 /// The layout of a struct that has members.
 fn struct_layout(
     alloc: Global,
     types: &Types,
     places: &[usize],
-    built: &[Layout],
+    built: &[Repeated],
     t: TypeId,
 ) -> Result<Layout, NoMemory>
     requires formed { IsWellFormed types.now }
@@ -80,7 +87,8 @@ fn struct_layout(
     requires aggregate { IsStruct types.now t }
     requires complete { IsComplete types.now t }
     requires kept { ArePartsKept types.now places.now built.now t }
-    requires low { All IsLow built.now }
+    requires low { All IsLowKept built.now }
+    requires shown { (E : Relation) × ArePartsShown types.now E places.now built.now t }
     ensures { (E : Relation) → ArePartsShown types.now E places.now built.now t
         → IfOk result (IsLayoutOf types.now E t) }
 {
@@ -88,9 +96,10 @@ fn struct_layout(
     let mut holds = false;
     'members: for i in 0..types.fields(t) {
         let field = types.field(t, i);
-        let part = kept(places, built, field.ty);
-        push_shifted(&mut spots, &part.spots, field.offset)?;
-        holds |= part.holds;
+        let part = lend_type(alloc, places, built, field.ty)?;
+        let layout = part.layout();
+        push_shifted(&mut spots, &layout.spots, field.offset)?;
+        holds |= layout.holds;
     }
     Ok(Layout {
         size: types.size_of(t),
@@ -104,22 +113,35 @@ fn member_layouts<'a>(
     alloc: Global,
     types: &Types,
     places: &[usize],
-    built: &'a [Layout],
+    built: &'a [Repeated],
     t: TypeId,
-) -> Result<Vec<&'a Layout>, NoMemory>
+) -> Result<Vec<Lent<'a>>, NoMemory>
     requires typed { IsType types.now t }
     requires aggregate { IsUnion types.now t }
     requires kept { ArePartsKept types.now places.now built.now t }
+    requires low { All IsLowKept built.now }
     ensures shown { (E : Relation) → ArePartsShown types.now E places.now built.now t
         → IfOk result (λ parts. AreLayoutsOf types.now E (members_at types.now t)
-        (map (λ p. p.now) parts.items)) }
+        (map lent_layout parts.items)) }
     ensures count { IfOk result (λ parts. length parts.items ≡ length (members_at types.now t)) }
 {
     let mut parts = Vec::new(alloc);
     'members: for i in 0..types.fields(t) {
         let field = types.field(t, i);
-        let part = kept(places, built, field.ty);
+        let part = lend_type(alloc, places, built, field.ty)?;
         parts.push(part)?;
+    }
+    Ok(parts)
+}
+
+/// The layouts that are lent.
+fn layouts_of<'a>(alloc: Global, lents: &'a [Lent<'_>]) -> Result<Vec<&'a Layout>, NoMemory>
+    ensures same { IfOk result (λ parts. map (λ p. p.now) parts.items ≡ map lent_layout lents.now) }
+    ensures count { IfOk result (λ parts. length parts.items ≡ length lents.now) }
+{
+    let mut parts = Vec::with_capacity(alloc, lents.len())?;
+    'lents: for lent in lents {
+        parts.push(lent.layout())?;
     }
     Ok(parts)
 }
@@ -199,7 +221,7 @@ fn union_layout(
     types: &Types,
     numbers: &[usize],
     places: &[usize],
-    built: &[Layout],
+    built: &[Repeated],
     t: TypeId,
 ) -> Result<Layout, NoMemory>
     requires formed { IsWellFormed types.now }
@@ -207,26 +229,29 @@ fn union_layout(
     requires aggregate { IsUnion types.now t }
     requires complete { IsComplete types.now t }
     requires kept { ArePartsKept types.now places.now built.now t }
+    requires low { All IsLowKept built.now }
     ensures { ArePartsShown types.now (same_number (number_in numbers.now)) places.now built.now t
         → IfOk result (IsLayoutOf types.now (same_number (number_in numbers.now)) t) }
 {
-    let parts = member_layouts(alloc, types, places, built, t)?;
+    let lents = member_layouts(alloc, types, places, built, t)?;
+    let parts = layouts_of(alloc, &lents)?;
     union_of(alloc, numbers, t, types.size_of(t), &parts)
 }
 
-/// The layout of a type, from those of its parts.
-pub(crate) fn layout_of(
+/// The layout of a type that is no array, from those of its parts.
+fn layout_of(
     alloc: Global,
     types: &Types,
     numbers: &[usize],
     places: &[usize],
-    built: &[Layout],
+    built: &[Repeated],
     t: TypeId,
 ) -> Result<Layout, NoMemory>
     requires formed { IsWellFormed types.now }
     requires typed { IsType types.now t }
+    requires other { (element : TypeId) (n : ℕ) → shape_at types.now t ≢ Array element n }
     requires kept { ArePartsKept types.now places.now built.now t }
-    requires low { All IsLow built.now }
+    requires low { All IsLowKept built.now }
     requires shown { ArePartsShown types.now (same_number (number_in numbers.now)) places.now
         built.now t }
     ensures { IfOk result (IsLayoutOf types.now (same_number (number_in numbers.now)) t) }
@@ -236,10 +261,7 @@ pub(crate) fn layout_of(
         TypeShape::Function(_, _) => Ok(raw_layout(alloc, 0)),
         TypeShape::Integer { bytes, signed: _ } => Ok(raw_layout(alloc, *bytes)),
         TypeShape::Pointer(node, to) => item_layout(alloc, Item::Pointer(*node, *to), true),
-        TypeShape::Array(element, count) => {
-            let part = kept(places, built, *element);
-            array_layout(alloc, part, *count)
-        }
+        TypeShape::Array(_, _) => Ok(raw_layout(alloc, 0)),
         TypeShape::Struct(_) => {
             if types.fields(t) == 0 {
                 item_layout(alloc, Item::Incomplete(t), false)
@@ -253,6 +275,36 @@ pub(crate) fn layout_of(
             } else {
                 union_layout(alloc, types, numbers, places, built, t)
             }
+        }
+    }
+}
+
+/// What is kept of a type, from what is kept of its parts.
+pub(crate) fn kept_of(
+    alloc: Global,
+    types: &Types,
+    numbers: &[usize],
+    places: &[usize],
+    built: &[Repeated],
+    t: TypeId,
+) -> Result<Repeated, NoMemory>
+    requires formed { IsWellFormed types.now }
+    requires typed { IsType types.now t }
+    requires kept { ArePartsKept types.now places.now built.now t }
+    requires low { All IsLowKept built.now }
+    requires shown { ArePartsShown types.now (same_number (number_in numbers.now)) places.now
+        built.now t }
+    ensures { IfOk result (IsKeptOf types.now (same_number (number_in numbers.now)) t) }
+{
+    match types.shape(t) {
+        TypeShape::Array(element, count) => {
+            let part = kept(places, built, *element);
+            let times = *count * part.count;
+            kept_times(alloc, &part.part, times)
+        }
+        _ => {
+            let part = layout_of(alloc, types, numbers, places, built, t)?;
+            Ok(Repeated { part, count: 1 })
         }
     }
 }

@@ -1,33 +1,36 @@
 //! The view of a table that remembers what it found.
 #![tactic(auto)]
 
-ghost use Rattle.std.specs.Prelude.{ℕ, ◌≡◌, ◌≢◌, ◌↔◌, ◌⊎◌, IfOk, OnOk, IsTrue};
+ghost use Rattle.std.specs.Prelude.{ℕ, ◌≡◌, ◌≢◌, ◌↔◌, ◌⊎◌, length, IfOk, OnOk, IsTrue};
 ghost use Rattle.std.specs.List.{AllPairs, Contains};
 ghost use Rattle.cc_base.specs.declared.number.TypeId.{TypeId};
 ghost use Rattle.cc_base.specs.declared.number.NodeId.{NodeId};
 ghost use Rattle.cc_base.specs.declared.kind.Kind.{Kind};
 ghost use Rattle.c_types.specs.Table.{IsType};
-ghost use Rattle.c_types.specs.Equality.{physically_equal, begins_with, strictly_below};
+ghost use Rattle.c_types.specs.Cells.{holds_pointer};
+ghost use Rattle.c_types.specs.Equality.{physically_equal, begins_with, strictly_below, cells_of};
 ghost use Rattle.c_types.specs.Flows.{flow_class, CorrespondAtTop, StandAlike};
 ghost use Rattle.c_types.specs.Contents.{HoldsMixed};
 ghost use Rattle.phys_types.specs.Firsts.{AreFirstEquals};
 ghost use Rattle.phys_types.specs.Found.{Gains};
+ghost use Rattle.phys_types.specs.Lending.{lent_layout};
 ghost use Rattle.phys_types.specs.Pairs.{AreCorrespondingNodes, TellsEqualKinds};
 ghost use Rattle.phys_types.specs.Rounds.{TellEqual};
-ghost use Rattle.phys_types.specs.Shown.{IsLayoutOf};
+ghost use Rattle.phys_types.specs.Shown.{IsLayoutOf, IsKeptOf};
 ghost use Rattle.phys_types.specs.Standing.{AreEqualTypes, CorrespondInSome};
 
 use crate::alike::{add_alike, add_spots};
-use crate::building::kept;
+use crate::building::{kept, lend_type};
 use crate::comparing::{begins, number_of};
 use crate::firsts::firsts_of;
 use crate::following::follow;
 use crate::found::Found;
+use crate::keeping::Repeated;
+use crate::lending::Lent;
 use crate::mixed_unions::{has_union, unions_of};
 use crate::order::in_order;
 use crate::phys::{is_one_function, settled_class, settled_pairs};
 use crate::round::settle;
-use crate::spot::Layout;
 use crate::top::add_top;
 use c_types::{FlowClass, Types};
 use cc_base::{NoMemory, NodeId, TypeId};
@@ -43,7 +46,7 @@ pub struct Known<'a> {
     order: Vec<TypeId>,
     places: Vec<usize>,
     numbers: Vec<usize>,
-    layouts: Vec<Layout>,
+    layouts: Vec<Repeated>,
 }
 
 impl<'a> Model for Known<'a> {
@@ -77,12 +80,38 @@ impl<'a> Known<'a> {
         })
     }
 
-    /// The layout of a type: its cells. It takes constant time.
-    pub fn layout(&self, t: TypeId) -> &Layout
+    /// The layout of a type: its cells. One of a long array is written out, any other takes constant time.
+    pub fn layout(&self, t: TypeId) -> Result<Lent<'_>, NoMemory>
         requires { IsType self.now t }
-        ensures { IsLayoutOf self.now (physically_equal self.now) t result.now }
+        ensures { IfOk result (λ lent. IsLayoutOf self.now (physically_equal self.now) t
+            (lent_layout lent)) }
+    {
+        lend_type(self.alloc, &self.places, &self.layouts, t)
+    }
+
+    /// The layout of a type as a part and how often it stands. Takes no memory.
+    pub fn repeated(&self, t: TypeId) -> &Repeated
+        requires { IsType self.now t }
+        ensures { IsKeptOf self.now (physically_equal self.now) t result.now }
     {
         kept(&self.places, &self.layouts, t)
+    }
+
+    /// How many cells a type has. Takes no memory.
+    pub fn cell_count(&self, t: TypeId) -> u64
+        requires { IsType self.now t }
+        ensures { result ≡ length (cells_of self.now t) }
+    {
+        let own = kept(&self.places, &self.layouts, t);
+        own.count * own.part.size
+    }
+
+    /// Whether a type holds a pointer by value. Takes no memory.
+    pub fn holds_pointer(&self, t: TypeId) -> bool
+        requires { IsType self.now t }
+        ensures { result ≡ holds_pointer self.now t }
+    {
+        self.repeated(t).part.holds
     }
 
     /// Whether two types are physically equal.
@@ -109,24 +138,27 @@ impl<'a> Known<'a> {
     }
 
     /// Whether a type begins with another.
-    pub fn begins_with(&self, t: TypeId, u: TypeId) -> bool
+    pub fn begins_with(&self, t: TypeId, u: TypeId) -> Result<bool, NoMemory>
         requires first { IsType self.now t }
         requires second { IsType self.now u }
-        ensures { result ≡ begins_with self.now t u }
+        ensures { IfOk result (λ begins. begins ≡ begins_with self.now t u) }
     {
         if is_one_function(self.types, t, u) {
-            return false;
+            return Ok(false);
         }
-        begins(&self.numbers, self.layout(t), self.layout(u))
+        let x = self.layout(t)?;
+        let y = self.layout(u)?;
+        Ok(begins(&self.numbers, x.layout(), y.layout()))
     }
 
     /// Whether a type lies strictly below another: it begins with it and isn't physically equal to it.
-    pub fn strictly_below(&self, t: TypeId, u: TypeId) -> bool
+    pub fn strictly_below(&self, t: TypeId, u: TypeId) -> Result<bool, NoMemory>
         requires first { IsType self.now t }
         requires second { IsType self.now u }
-        ensures { result ≡ strictly_below self.now t u }
+        ensures { IfOk result (λ below. below ≡ strictly_below self.now t u) }
     {
-        self.begins_with(t, u) && !self.is_equal(t, u)
+        let begins = self.begins_with(t, u)?;
+        Ok(begins && !self.is_equal(t, u))
     }
 
     /// The class of a flow from a pointer to `from` to a pointer to `to`.
@@ -174,15 +206,17 @@ impl<'a> Known<'a> {
         ensures { IfOk result (λ unions. (v : TypeId)
             → Contains unions.items v ↔ HoldsMixed self.now t v) }
     {
-        unions_of(self.alloc, &self.layout(t).spots)
+        let lent = self.layout(t)?;
+        unions_of(self.alloc, &lent.layout().spots)
     }
 
     /// Whether a type is a mixed union.
-    pub fn is_mixed(&self, t: TypeId) -> bool
+    pub fn is_mixed(&self, t: TypeId) -> Result<bool, NoMemory>
         requires { IsType self.now t }
-        ensures { IsTrue result ↔ HoldsMixed self.now t t }
+        ensures { IfOk result (λ mixed. IsTrue mixed ↔ HoldsMixed self.now t t) }
     {
-        has_union(&self.layout(t).spots, t)
+        let lent = self.layout(t)?;
+        Ok(has_union(&lent.layout().spots, t))
     }
 
     /// Adds the pointers of two types that correspond in a flow of this class between pointers to them, but not those that they lead to.
@@ -199,15 +233,17 @@ impl<'a> Known<'a> {
         ensures { OnOk result (Gains (CorrespondAtTop self.now
             (flow_class self.now from to) from to) found.old found.new) }
     {
+        let x = self.layout(from)?;
+        let y = self.layout(to)?;
         add_top(
             self.alloc,
             self.types,
             found,
             class,
             from,
-            self.layout(from),
+            x.layout(),
             to,
-            self.layout(to),
+            y.layout(),
         )
     }
 
@@ -220,8 +256,10 @@ impl<'a> Known<'a> {
             ⊎ IsTrue (begins_with self.now u t) }
         ensures { OnOk result (Gains (StandAlike self.now t u) found.old found.new) }
     {
-        let x = self.layout(t);
-        let y = self.layout(u);
+        let lent = self.layout(t)?;
+        let other = self.layout(u)?;
+        let x = lent.layout();
+        let y = other.layout();
         if self.is_equal(t, u) {
             add_alike(self.types, found, t, x, u, y)
         } else {
@@ -236,6 +274,6 @@ impl<'a> Known<'a> {
         ensures { OnOk result (Gains (CorrespondInSome self.now found.old.pointees) found.old
             found.new) }
     {
-        follow(self.types, &self.places, &self.layouts, found)
+        follow(self.alloc, self.types, &self.places, &self.layouts, found)
     }
 }

@@ -17,10 +17,11 @@ ghost use Rattle.phys_types.specs.Orders.{IsWholeOrder};
 ghost use Rattle.phys_types.specs.Rounds.{AreSettled};
 ghost use Rattle.phys_types.specs.Views.{IsPair};
 
-use crate::building::kept;
+use crate::building::lend_type;
 use crate::comparing::{begins, number_of};
 use crate::following::follow;
 use crate::found::Found;
+use crate::keeping::Repeated;
 use crate::known::Known;
 use crate::spot::Layout;
 use crate::tiling::tiles;
@@ -90,7 +91,7 @@ pub(crate) fn settled_pairs(
     order: &[TypeId],
     places: &[usize],
     numbers: &[usize],
-    layouts: &[Layout],
+    layouts: &[Repeated],
     from: TypeId,
     to: TypeId,
 ) -> Result<Vec<(NodeId, NodeId)>, NoMemory>
@@ -104,10 +105,19 @@ pub(crate) fn settled_pairs(
 {
     let class = settled_class(alloc, types, order, places, numbers, layouts, from, to)?;
     let mut found = Found::new(alloc);
-    let x = kept(places, layouts, from);
-    let y = kept(places, layouts, to);
-    add_top(alloc, types, &mut found, class, from, x, to, y)?;
-    follow(types, places, layouts, &mut found)?;
+    let x = lend_type(alloc, places, layouts, from)?;
+    let y = lend_type(alloc, places, layouts, to)?;
+    add_top(
+        alloc,
+        types,
+        &mut found,
+        class,
+        from,
+        x.layout(),
+        to,
+        y.layout(),
+    )?;
+    follow(alloc, types, places, layouts, &mut found)?;
     found.into_nodes(alloc)
 }
 
@@ -118,7 +128,7 @@ pub(crate) fn settled_class(
     order: &[TypeId],
     places: &[usize],
     numbers: &[usize],
-    layouts: &[Layout],
+    layouts: &[Repeated],
     from: TypeId,
     to: TypeId,
 ) -> Result<FlowClass, NoMemory>
@@ -129,9 +139,9 @@ pub(crate) fn settled_class(
     requires to { IsType types.now to }
     ensures { IfOk result (λ class. class ≡ flow_class types.now from to) }
 {
-    let x = kept(places, layouts, from);
-    let y = kept(places, layouts, to);
-    class_of(alloc, types, numbers, from, x, to, y)
+    let x = lend_type(alloc, places, layouts, from)?;
+    let y = lend_type(alloc, places, layouts, to)?;
+    class_of(alloc, types, numbers, from, x.layout(), to, y.layout())
 }
 
 /// Whether a type is a function type.

@@ -11,24 +11,25 @@ ghost use Rattle.c_types.specs.Sound.{IsWellFormed};
 ghost use Rattle.phys_types.specs.Numbers.{number_in, same_number};
 ghost use Rattle.phys_types.specs.Orders.{IsWholeOrder};
 ghost use Rattle.phys_types.specs.Reach.{IsClosed};
-ghost use Rattle.phys_types.specs.Shown.{IsLayoutOf, IsLow, ArePartsKept, ArePartsShown};
+ghost use Rattle.phys_types.specs.Shown.{IsKeptOf, IsLowKept, ArePartsKept, ArePartsShown};
 ghost use Rattle.phys_types.specs.Rounds.{IsOrder, AreShown, IsRound, AreSettled, AreStable, first_place};
 
-use crate::building::layout_of;
+use crate::building::kept_of;
 use crate::comparing::number_of;
+use crate::keeping::Repeated;
+use crate::lending::lend;
 use crate::makeup::looks_alike;
 use crate::refining::refine;
-use crate::spot::Layout;
 use c_types::Types;
 use cc_base::{NoMemory, TypeId};
 use indexmap::IndexMap;
 use std::alloc::Global;
 
-/// Numbers of types, and the layouts of the types in order under the numbers of the round before.
+/// Numbers of types, and what is kept of the layouts of the types in order, under the numbers of the round before.
 #[derive(Debug, Drop)]
 pub(crate) struct Round {
     pub(crate) numbers: Vec<usize>,
-    pub(crate) layouts: Vec<Layout>,
+    pub(crate) layouts: Vec<Repeated>,
 }
 
 /// As many zeros.
@@ -38,31 +39,56 @@ pub(crate) fn zeros(alloc: Global, count: usize) -> Result<Vec<usize>, NoMemory>
     Ok(vec![in alloc; 0; count]?)
 }
 
+/// Whether two types look alike, by what is kept of them.
+fn look_alike(
+    alloc: Global,
+    types: &Types,
+    numbers: &[usize],
+    t: TypeId,
+    x: &Repeated,
+    u: TypeId,
+    y: &Repeated,
+) -> Result<bool, NoMemory>
+    requires formed { IsWellFormed types.now }
+    requires first { IsType types.now t }
+    requires second { IsType types.now u }
+    requires first_kept { IsKeptOf types.now (same_number (number_in numbers.now)) t x.now }
+    requires second_kept { IsKeptOf types.now (same_number (number_in numbers.now)) u y.now }
+    ensures { IfOk result (λ alike. alike ≡ made_alike types.now
+        (same_number (number_in numbers.now)) t u) }
+{
+    let lent = lend(alloc, x)?;
+    let other = lend(alloc, y)?;
+    Ok(looks_alike(types, numbers, t, lent.layout(), u, other.layout()))
+}
+
 /// The place of the first of the types so far that is made like a type, or how many there are.
 fn first_alike(
+    alloc: Global,
     types: &Types,
     numbers: &[usize],
     order: &[TypeId],
-    layouts: &[Layout],
+    layouts: &[Repeated],
     t: TypeId,
-    layout: &Layout,
-) -> usize
+    own: &Repeated,
+) -> Result<usize, NoMemory>
     requires formed { IsWellFormed types.now }
     requires typed { IsType types.now t }
     requires types { All (IsType types.now) order.now }
     requires within { length layouts.now ≤ length order.now }
     requires shown { AreShown types.now (same_number (number_in numbers.now)) order.now
         layouts.now }
-    requires own { IsLayoutOf types.now (same_number (number_in numbers.now)) t layout.now }
-    ensures { result ≡ first_place (λ u. made_alike types.now
-        (same_number (number_in numbers.now)) u t) (take (length layouts.now) order.now) }
+    requires own { IsKeptOf types.now (same_number (number_in numbers.now)) t own.now }
+    ensures { IfOk result (λ place. place ≡ first_place (λ u. made_alike types.now
+        (same_number (number_in numbers.now)) u t) (take (length layouts.now) order.now)) }
 {
     for (i, other) in layouts.iter().enumerate() {
-        if looks_alike(types, numbers, order[i], other, t, layout) {
-            return i;
+        let alike = look_alike(alloc, types, numbers, order[i], other, t, own)?;
+        if alike {
+            return Ok(i);
         }
     }
-    layouts.len()
+    Ok(layouts.len())
 }
 
 /// The numbers of a round: each type gets the place of the first that is made like it, where what they point to is equal by
@@ -82,9 +108,10 @@ pub(crate) fn renumber(
     let mut next = zeros(alloc, types.count() as usize)?;
     let mut layouts = Vec::with_capacity(alloc, order.len())?;
     'types: for t in order {
-        let layout = layout_of(alloc, types, numbers, places, &layouts, *t)?;
-        next[t.0 as usize] = first_alike(types, numbers, order, &layouts, *t, &layout);
-        layouts.push(layout)?;
+        let own = kept_of(alloc, types, numbers, places, &layouts, *t)?;
+        let first = first_alike(alloc, types, numbers, order, &layouts, *t, &own)?;
+        next[t.0 as usize] = first;
+        layouts.push(own)?;
     }
     Ok(Round {
         numbers: next,
@@ -92,14 +119,14 @@ pub(crate) fn renumber(
     })
 }
 
-/// The layouts of the types in order, under numbers.
+/// What is kept of the layouts of the types in order, under numbers.
 fn built(
     alloc: Global,
     types: &Types,
     order: &[TypeId],
     places: &[usize],
     numbers: &[usize],
-) -> Result<Vec<Layout>, NoMemory>
+) -> Result<Vec<Repeated>, NoMemory>
     requires formed { IsWellFormed types.now }
     requires order { IsOrder types.now order.now places.now }
     ensures all { IfOk result (λ layouts. length layouts.items ≡ length order.now) }
@@ -108,8 +135,8 @@ fn built(
 {
     let mut layouts = Vec::with_capacity(alloc, order.len())?;
     'types: for t in order {
-        let layout = layout_of(alloc, types, numbers, places, &layouts, *t)?;
-        layouts.push(layout)?;
+        let own = kept_of(alloc, types, numbers, places, &layouts, *t)?;
+        layouts.push(own)?;
     }
     Ok(layouts)
 }
@@ -131,29 +158,34 @@ fn first_with(
     Ok(place)
 }
 
-/// Whether the types at two places look alike.
+/// Whether the types at two places look alike. A type looks like itself.
 fn look_alike_at(
+    alloc: Global,
     types: &Types,
     order: &[TypeId],
-    layouts: &[Layout],
+    layouts: &[Repeated],
     numbers: &[usize],
     first: usize,
     place: usize,
-) -> bool
+) -> Result<bool, NoMemory>
     requires formed { IsWellFormed types.now }
     requires types { All (IsType types.now) order.now }
     requires all { length layouts.now ≡ length order.now }
     requires shown { AreShown types.now (same_number (number_in numbers.now)) order.now
         layouts.now }
     requires place { place < length order.now }
-    ensures { (d : TypeId) → IsTrue result → IsTrue (made_alike types.now
+    ensures { (d : TypeId) → IfOk result (λ alike. IsTrue alike → IsTrue (made_alike types.now
         (same_number (number_in numbers.now)) (slice_index_or order.now first d)
-        (slice_index_or order.now place d)) }
+        (slice_index_or order.now place d))) }
 {
-    if first >= order.len() {
-        return false;
+    if first == place {
+        return Ok(true);
     }
-    looks_alike(
+    if first >= order.len() {
+        return Ok(false);
+    }
+    look_alike(
+        alloc,
         types,
         numbers,
         order[first],
@@ -168,7 +200,7 @@ fn are_stable(
     alloc: Global,
     types: &Types,
     order: &[TypeId],
-    layouts: &[Layout],
+    layouts: &[Repeated],
     numbers: &[usize],
 ) -> Result<bool, NoMemory>
     requires formed { IsWellFormed types.now }
@@ -181,14 +213,18 @@ fn are_stable(
     let mut firsts = IndexMap::new(alloc);
     'places: for place in 0..order.len() {
         let first = first_with(&mut firsts, number_of(numbers, order[place]), place)?;
-        if !look_alike_at(types, order, layouts, numbers, first, place) {
+        let alike = look_alike_at(alloc, types, order, layouts, numbers, first, place)?;
+        if !alike {
             return Ok(false);
         }
     }
     Ok(true)
 }
 
-/// Numbers that are the same exactly for physically equal types, and the layouts of the types in order under them.
+/// How many of the first spots of a type numbers are made finer by, at first.
+const FIRST_LIMIT: usize = 1024;
+
+/// Numbers that are the same exactly for physically equal types, and what is kept of the layouts of the types in order, under them.
 ///
 /// One number for all types is made finer, until types of one number are made alike. A union may be mixed under finer numbers that
 /// wasn't before, so layouts are built again. Where that doesn't come to an end, the levels of the definition decide.
@@ -205,13 +241,15 @@ pub(crate) fn settle(
 {
     let count = types.count() as usize;
     let mut numbers = zeros(alloc, count)?;
+    let mut limit = FIRST_LIMIT;
     'rounds: for _round in 0..count {
         let layouts = built(alloc, types, order, places, &numbers)?;
         let stable = are_stable(alloc, types, order, &layouts, &numbers)?;
         if stable {
             return Ok(Round { numbers, layouts });
         }
-        numbers = refine(alloc, types, places, &layouts, &numbers)?;
+        numbers = refine(alloc, types, places, &layouts, &numbers, limit)?;
+        limit = limit.saturating_mul(4);
     }
     settle_by_levels(alloc, types, order, places)
 }

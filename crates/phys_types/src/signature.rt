@@ -7,7 +7,7 @@ ghost use Rattle.c_types.specs.Sound.{IsWellFormed};
 ghost use Rattle.c_types.specs.Table.{IsType};
 ghost use Rattle.phys_types.specs.Signatures.{mixed, mixed_all, item_form, spot_form, slot_form, slot_in, form_at, item_targets, slot_targets, targets_at};
 
-use crate::spot::{Item, Layout, Spot};
+use crate::spot::{Item, Spot};
 use c_types::{TypeShape, Types};
 use cc_base::{NoMemory, TypeId};
 use std::alloc::Global;
@@ -71,18 +71,18 @@ fn slots_form(types: &Types, start: usize, ps: &[TypeId]) -> usize
     form
 }
 
-/// What is seen of a type without what it points to.
-pub(crate) fn form_of(types: &Types, t: TypeId, layout: &Layout) -> usize
+/// What is seen of a type without what it points to, by how many cells it has and by its first spots.
+pub(crate) fn form_of(types: &Types, t: TypeId, size: u64, spots: &[Spot]) -> usize
     requires formed { IsWellFormed types.now }
     requires typed { IsType types.now t }
-    ensures { result ≡ form_at types.now t layout.now }
+    ensures { result ≡ form_at types.now t size spots.now }
 {
     match types.shape(t) {
         TypeShape::Function(ps, r) => {
             let first = mixed(1, slot_form(types, *r));
             slots_form(types, first, ps.ids())
         }
-        _ => mixed(spots_form(&layout.spots), layout.size as usize),
+        _ => mixed(spots_form(spots), size as usize),
     }
 }
 
@@ -158,19 +158,19 @@ fn function_targets(
     Ok(targets)
 }
 
-/// What a type points to, in order.
+/// What a type points to, in order, as its first spots show it.
 pub(crate) fn targets_of(
     alloc: Global,
     types: &Types,
     t: TypeId,
-    layout: &Layout,
+    spots: &[Spot],
 ) -> Result<Vec<TypeId>, NoMemory>
     requires formed { IsWellFormed types.now }
     requires typed { IsType types.now t }
-    ensures { IfOk result (λ targets. targets.items ≡ targets_at types.now t layout.now) }
+    ensures { IfOk result (λ targets. targets.items ≡ targets_at types.now t spots.now) }
 {
     match types.shape(t) {
         TypeShape::Function(ps, r) => function_targets(alloc, types, *r, ps.ids()),
-        _ => spots_targets(alloc, &layout.spots),
+        _ => spots_targets(alloc, spots),
     }
 }

@@ -1,15 +1,5 @@
 -- Types with their sizes, one after another.
 use Rattle.std.proofs.Common.{◌≡◌, ℕ, zero, suc, ◌+◌, ◌<◌, List, [], ◌∷◌, ◌++◌, length, map, take, get_or, refl, ap, sym, ◌∙◌, arith}
-use Rattle.cc_base.specs.declared.number.TypeId.{TypeId}
-use Rattle.c_types.specs.Table.{Table}
-use Rattle.c_types.specs.Layouts.{size_of}
-use Rattle.c_types.specs.Equality.{physically_equal, cells_of}
-use Rattle.phys_types.specs.declared.spot.Layout.{Layout}
-use Rattle.phys_types.specs.Shown.{IsLayoutOf}
-use Rattle.phys_types.proofs.Spreading.{length_all}
-
-pub layout_size : (table : Table) (t : TypeId) (x : Layout) → IsLayoutOf table (physically_equal table) t x → x.size ≡ length (cells_of table t)
-layout_size table t x h = sym (length_all (size_of table) x.spots.items x.size h.spots) ∙ ap length h.cells
 
 map_next : {A B : Type 0} (f : A → B) (xs : List A) (i : ℕ) (d : A) → i < length xs → map f (take (i + 1) xs) ≡ map f (take i xs) ++ f (get_or xs i d) ∷ []
 map_next f [] i d h = absurd (omega (arith, h))

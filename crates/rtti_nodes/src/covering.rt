@@ -42,14 +42,14 @@ fn nodes_by_place(
 }
 
 /// Whether a type begins with another. Of two types with as many cells it does so where they are physically equal, which takes less.
-fn begins_with(known: &Known, t: TypeId, u: TypeId) -> bool
+fn begins_with(known: &Known, t: TypeId, u: TypeId) -> Result<bool, NoMemory>
     requires formed { IsWellFormed known.now }
     requires first { IsType known.now t }
     requires second { IsType known.now u }
-    ensures { result ≡ begins_with known.now t u }
+    ensures { IfOk result (λ begins. begins ≡ begins_with known.now t u) }
 {
-    if known.layout(t).size == known.layout(u).size && !known.is_equal(t, u) {
-        return false;
+    if known.cell_count(t) == known.cell_count(u) && !known.is_equal(t, u) {
+        return Ok(false);
     }
     known.begins_with(t, u)
 }
@@ -88,7 +88,7 @@ pub(crate) fn covers(
     requires told { TellClasses known.now (kind_at kinds.now) told.now }
     ensures { IfOk result (λ covered. covered ≡ covers known.now (kind_at kinds.now) t u) }
 {
-    if !begins_with(known, t, u) {
+    if !begins_with(known, t, u)? {
         return Ok(false);
     }
     if !told.are_exact {

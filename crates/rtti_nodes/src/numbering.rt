@@ -92,7 +92,8 @@ fn finer(
     let count = types.count();
     let mut finer = Vec::with_capacity(alloc, count as usize)?;
     'types: for t in 0..count {
-        let label = label_of(types, kinds, numbers, TypeId(t), known.layout(TypeId(t)));
+        let lent = known.layout(TypeId(t))?;
+        let label = label_of(types, kinds, numbers, TypeId(t), lent.layout());
         finer.push(mixed(number_of(numbers, TypeId(t)), label))?;
     }
     Ok(finer)

@@ -41,7 +41,7 @@ fn with_sizes(alloc: Global, known: &Known, types: &[TypeId]) -> Result<Vec<Size
 {
     let mut all = Vec::with_capacity(alloc, types.len())?;
     'types: for ty in types {
-        let size = known.layout(*ty).size;
+        let size = known.cell_count(*ty);
         all.push(Sized { size, ty: *ty })?;
     }
     Ok(all)

@@ -36,6 +36,9 @@ enum Made {
     Turns(&'static str, usize),
     /// A struct of a thousand pointers to `char`, with nodes from this one on.
     Texts(u32),
+    /// An array of pointers to `char`, the first of so many, with nodes from the first number on. The last number is how many pointers it
+    /// has; each of the others has one fewer than the one before.
+    Lists(u32, u32, u64),
 }
 
 /// Each struct that doesn't hold a pointer to itself has the name that its members spell. `entry` is that of a word counter,
@@ -225,8 +228,9 @@ static PAIRS: [(&str, &str, usize, &[(u32, u32)]); 31] = [
     ("nested", "{int,amount}", 1, &[(3, 4)]),
 ];
 
-/// Arrays of a million bytes, and structs of a thousand members: one pair of types again and again, or pointers with a node each.
-static LARGE_TYPES: [(&str, Made); 20] = [
+/// Arrays of a million bytes, and structs of a thousand members: one pair of types again and again, or pointers with a node each. There
+/// are four thousand long arrays, each of pointers with a node of its own.
+static LARGE_TYPES: [(&str, Made); 32] = [
     ("char", Made::Basic(1)),
     ("int", Made::Basic(5)),
     ("long", Made::Basic(7)),
@@ -247,9 +251,21 @@ static LARGE_TYPES: [(&str, Made); 20] = [
     ("texts", Made::Texts(1000)),
     ("words", Made::Texts(2000)),
     ("texts[3]", Made::Array("texts", 3)),
+    ("number", Made::Pointer(2, "int")),
+    ("line", Made::Pointer(3, "char")),
+    ("text[40]", Made::Array("text", 40)),
+    ("text[40][40]", Made::Array("text[40]", 40)),
+    ("text[1600]", Made::Array("text", 1_600)),
+    ("(text)*1600", Made::Turns("text", 1_600)),
+    ("(word)*1600", Made::Turns("word", 1_600)),
+    ("(text)*1599", Made::Turns("text", 1_599)),
+    ("{(text)*1599,number}", Made::Struct("(text)*1599 number")),
+    ("line[65000]", Made::Array("line", 65_000)),
+    ("line[70000]", Made::Array("line", 70_000)),
+    ("lists", Made::Lists(3000, 4000, 130_000)),
 ];
 
-static LARGE_CLASSES: [(&str, &str, FlowClass); 7] = [
+static LARGE_CLASSES: [(&str, &str, FlowClass); 14] = [
     ("char[1000000]", "long[125000]", FlowClass::Equal),
     ("char[1000000]", "char", FlowClass::UpTile),
     ("{int,text}[62500]", "{int,text}[62499]", FlowClass::UpTile),
@@ -257,10 +273,17 @@ static LARGE_CLASSES: [(&str, &str, FlowClass); 7] = [
     ("(int,text)*500", "(int,word)*500", FlowClass::Equal),
     ("(int,text)*500", "(int,text)*499", FlowClass::UpTile),
     ("(int,text)*499", "(int,word)*500", FlowClass::DownTile),
+    ("text[40][40]", "text[1600]", FlowClass::Equal),
+    ("text[1600]", "(text)*1600", FlowClass::Equal),
+    ("text[1600]", "{(text)*1599,number}", FlowClass::Bad),
+    ("(text)*1600", "{(text)*1599,number}", FlowClass::Bad),
+    ("{(text)*1599,number}", "(text)*1599", FlowClass::Up),
+    ("lists", "line[65000]", FlowClass::UpTile),
+    ("line[70000]", "lists", FlowClass::DownTile),
 ];
 
 /// How many pairs of nodes correspond, and these pairs, or some of them where there are a thousand.
-static LARGE_PAIRS: [(&str, &str, usize, &[(u32, u32)]); 8] = [
+static LARGE_PAIRS: [(&str, &str, usize, &[(u32, u32)]); 11] = [
     ("char[1000000]", "char", 0, &[]),
     ("{int,text}[62500]", "{int,word}[62500]", 1, &[(0, 1)]),
     (
@@ -284,6 +307,14 @@ static LARGE_PAIRS: [(&str, &str, usize, &[(u32, u32)]); 8] = [
         &[(1000, 2000), (1000, 1000), (2999, 2999)],
     ),
     ("texts", "texts[3]", 1000, &[(1000, 1000), (1999, 1999)]),
+    ("text[40][40]", "(word)*1600", 1, &[(0, 1)]),
+    ("(text)*1600", "{(text)*1599,number}", 0, &[]),
+    (
+        "lists",
+        "line[65000]",
+        3,
+        &[(3000, 3), (3000, 3000), (3, 3)],
+    ),
 ];
 
 /// Whether all are complete types of the table.
@@ -327,6 +358,18 @@ fn array(rt: &impl Abort, types: &mut Types, element: TypeId, count: u64) -> Typ
     types
         .add(TypeShape::Array(element, count))
         .expect(rt, "an array")
+}
+
+/// As many arrays of pointers to `char`, with nodes from `first` on: the first, of `length` pointers, and others that have one fewer
+/// than the one before.
+fn lists(rt: &impl Abort, types: &mut Types, first: u32, count: u32, length: u64) -> TypeId {
+    let text = pointer(rt, types, first, CHAR);
+    let longest = array(rt, types, text, length);
+    for i in 1..count {
+        let next = pointer(rt, types, first.saturating_add(i), CHAR);
+        let _shorter = array(rt, types, next, length.saturating_sub(i as u64));
+    }
+    longest
 }
 
 /// A function of one parameter.
@@ -429,6 +472,7 @@ fn begun(
         Made::Basic(basic) => TypeId(basic),
         Made::Pointer(node, to) => pointer(rt, types, node, named(rt, names, to)),
         Made::Array(element, count) => array(rt, types, named(rt, names, element), count),
+        Made::Lists(first, count, length) => lists(rt, types, first, count, length),
         Made::Function(parameter) => function(rt, alloc, types, named(rt, names, parameter)),
         Made::Completed(_) => named(rt, names, name),
         Made::Union(_) => types.add(TypeShape::Union(number)).expect(rt, "a union"),
@@ -524,7 +568,7 @@ fn small_types(rt: HostRuntime) -> Result<(), TypeFault> {
     compare(&rt, rt.alloc(), &TYPES, &CLASSES, &PAIRS)
 }
 
-/// Large types are classed quickly.
+/// Large types are classed quickly, and long arrays take little memory.
 #[test]
 fn large_types(rt: HostRuntime) -> Result<(), TypeFault> {
     compare(&rt, rt.alloc(), &LARGE_TYPES, &LARGE_CLASSES, &LARGE_PAIRS)

@@ -24,7 +24,7 @@ pub add_places-requires-clause-near : goal.add_places-requires-clause-near
 add_places-requires-clause-near c =
     inr (inr (subst (λ (table : List Entry). begins_with table c.in-Some.largest c.field.result.ty ≡ true) (sym c.requires.table)
     (largest_begins c.args.types.now c.requires.formed c.args.v c.requires.union c.field.result.ty c.in-Some.largest
-    (λ h. true≢false (sym (c.is_mixed.ensures.1 (subst (λ (table : List Entry). HoldsMixed table c.args.v c.args.v) (sym c.requires.table) h)) ∙ c.if-is_mixed.false))
+    (λ h. true≢false (sym (c.in_ok-mixed.ensures.1 (subst (λ (table : List Entry). HoldsMixed table c.args.v c.args.v) (sym c.requires.table) h)) ∙ c.if-mixed.false))
     (subst (Contains (members_at c.args.types.now c.args.v)) (sym c.field.ensures.ty) (Contains-get_or (members_at c.args.types.now c.args.v) c.members.i c.args.v (omega arith)))
     c.in-Some.ensures.found)))
 
@@ -40,7 +40,7 @@ returns-after-members c =
     gains_as (RelatedBySome (members_at c.args.types.now c.args.v) (λ u. StandAlike c.args.types.now u c.in-Some.largest))
     (λ p q. (HoldsMixed c.args.types.now c.args.v c.args.v → ⊥) × StandInUnion c.args.types.now c.args.v p q) c.args.found.now c.members.found
     (λ p q h. (
-      (λ k. true≢false (sym (c.is_mixed.ensures.1 (subst (λ (table : List Entry). HoldsMixed table c.args.v c.args.v) (sym c.requires.table) k)) ∙ c.if-is_mixed.false)),
+      (λ k. true≢false (sym (c.in_ok-mixed.ensures.1 (subst (λ (table : List Entry). HoldsMixed table c.args.v c.args.v) (sym c.requires.table) k)) ∙ c.if-mixed.false)),
       (h.0, c.in-Some.largest, h.1, c.in-Some.ensures.found, h.2),
     ))
     (λ p q h. let s = h.1 in (s.0, s.2, subst (λ (m : TypeId). StandAlike c.args.types.now s.0 m p q) (one_largest c.args.types.now c.args.v s.1 c.in-Some.largest s.3 c.in-Some.ensures.found) s.4))

@@ -1,22 +1,8 @@
 use Rattle.std.proofs.Common.{sym, ◌∙◌, arith}
 use Rattle.std.proofs.lemmas.Result.{IfOk-weaker}
 use Rattle.phys_types.specs.Numbers.{number_in, same_number}
-use Rattle.phys_types.proofs.Parts.{layout_low}
-use Rattle.phys_types.proofs.Shapes.{void_shown, function_shown, integer_shown, pointer_shown, array_shown, tag_shown, union_tag_shown, element_shown, array_fits}
+use Rattle.phys_types.proofs.Shapes.{void_shown, function_shown, integer_shown, pointer_shown, tag_shown, union_tag_shown}
 use Rattle.phys_types.proofs.building.layout_of.Goals as goal
-
-pub array_layout-requires-clause-low : goal.array_layout-requires-clause-low
-array_layout-requires-clause-low c =
-    layout_low c.args.types.now c.requires.formed (same_number (number_in c.args.numbers.now)) c.in-Array.element c.kept-part.result.now
-    (element_shown c.args.types.now (same_number (number_in c.args.numbers.now)) c.args.places.now c.args.built.now c.args.t c.in-Array.element c.in-Array.count c.kept-part.result.now
-    (sym c.shape.ensures ∙ c.in-Array.is) c.requires.shown c.kept-part.ensures)
-
-pub array_layout-requires-clause-small : goal.array_layout-requires-clause-small
-array_layout-requires-clause-small c =
-    array_fits c.args.types.now c.requires.formed (same_number (number_in c.args.numbers.now)) c.args.t c.in-Array.element c.in-Array.count c.kept-part.result.now
-    (sym c.shape.ensures ∙ c.in-Array.is)
-    (element_shown c.args.types.now (same_number (number_in c.args.numbers.now)) c.args.places.now c.args.built.now c.args.t c.in-Array.element c.in-Array.count c.kept-part.result.now
-    (sym c.shape.ensures ∙ c.in-Array.is) c.requires.shown c.kept-part.ensures)
 
 pub returns-in-Void : goal.returns-in-Void
 returns-in-Void c =
@@ -40,13 +26,10 @@ returns-in-Pointer c =
     c.item_layout.ensures
 
 pub returns-in-Array : goal.returns-in-Array
-returns-in-Array c =
-    IfOk-weaker c.array_layout.result _ _
-    (λ layout m. array_shown c.args.types.now c.requires.formed (same_number (number_in c.args.numbers.now)) c.args.t layout c.in-Array.element c.in-Array.count c.kept-part.result.now
-    (sym c.shape.ensures ∙ c.in-Array.is)
-    (element_shown c.args.types.now (same_number (number_in c.args.numbers.now)) c.args.places.now c.args.built.now c.args.t c.in-Array.element c.in-Array.count c.kept-part.result.now
-    (sym c.shape.ensures ∙ c.in-Array.is) c.requires.shown c.kept-part.ensures) m)
-    c.array_layout.ensures
+returns-in-Array c = absurd (c.requires.other _ _ (sym c.shape.ensures ∙ c.in-Array.is))
+
+pub struct_layout-requires-clause-shown : goal.struct_layout-requires-clause-shown
+struct_layout-requires-clause-shown c = (same_number (number_in c.args.numbers.now), c.requires.shown)
 
 pub returns-then-fields-eq0 : goal.returns-then-fields-eq0
 returns-then-fields-eq0 c =

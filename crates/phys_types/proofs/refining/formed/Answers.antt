@@ -1,5 +1,27 @@
-use Rattle.std.proofs.Common.{arith}
+use Rattle.std.proofs.Common.{◌+◌, length, get_or, ap, ◌∙◌, arith}
+use Rattle.std.proofs.lemmas.List.{length_push}
+use Rattle.phys_types.specs.Numbers.{number_in}
+use Rattle.phys_types.specs.Signatures.{mixed, front_form}
+use Rattle.phys_types.proofs.Parts.{low_at}
+use Rattle.phys_types.proofs.Reading.{numbers_more}
 use Rattle.phys_types.proofs.refining.formed.Goals as goal
 
-pub kept-requires : goal.kept-requires
-kept-requires c = c.requires.kept (record { 0 = c.types.t }) (let n = c.count-t-end.ensures.number in let h = c.types-test.true in omega arith)
+pub kept-own-requires : goal.kept-own-requires
+kept-own-requires c = c.requires.kept (record { 0 = c.types.t }) (let n = c.count-t-end.ensures.number in let h = c.types-test.true in omega arith)
+
+pub front_form-requires-clause-low : goal.front_form-requires-clause-low
+front_form-requires-clause-low c =
+    low_at c.args.places.now c.args.layouts.now (record { 0 = c.types.t }) c.kept-own.result.now
+    (c.requires.kept (record { 0 = c.types.t }) (let n = c.count-t-end.ensures.number in let h = c.types-test.true in omega arith)) c.requires.low c.kept-own.ensures
+
+pub types-preserved : goal.types-preserved
+types-preserved c = record {
+  fits = ap length c.in_ok-push.ensures.items ∙ length_push c.types.forms.items c.mixed.result ∙ ap (λ k. k + 1) c.types.invariant.fits;
+  numbers = λ d.
+      numbers_more c.types.forms.items c.push.new.self.items c.types.t c.mixed.result
+      (λ t. mixed (number_in c.args.numbers.now t) (front_form c.args.types.now c.args.limit t (get_or c.args.layouts.now (get_or c.args.places.now t.0 0) d)))
+      c.types.invariant.fits c.in_ok-push.ensures.items
+      (c.mixed.ensures ∙ (λ i. mixed (c.number_of.ensures i)
+      ((c.in_ok-form.ensures ∙ ap (front_form c.args.types.now c.args.limit (record { 0 = c.types.t })) (c.kept-own.ensures d)) i)))
+      (c.types.invariant.numbers d);
+}

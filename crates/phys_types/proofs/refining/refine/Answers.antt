@@ -10,7 +10,7 @@ use Rattle.phys_types.proofs.refining.refine.Goals as goal
 pub turns-init : goal.turns-init
 turns-init c E order o e all s coarse =
     let start =
-    coarser_forms c.args.types.now c.requires.formed order c.args.places.now o c.args.layouts.now all E e s c.args.numbers.now c.in_ok-finer.finer.items coarse
+    coarser_forms c.args.types.now c.requires.formed order c.args.places.now o c.args.layouts.now all E e s c.args.limit c.args.numbers.now c.in_ok-finer.finer.items coarse
     c.in_ok-finer.ensures.numbers in
     let copy = c.in_ok-fresh.ensures.items ∙ c.deref-2.ensures.value in
     record {
@@ -19,7 +19,7 @@ turns-init c E order o e all s coarse =
       same = c.in_ok-finer.ensures.fits;
       many = ap length copy ∙ c.in_ok-finer.ensures.fits;
       read = subst (λ (xs : Lists). AreReaders xs c.in_ok-readers.readers.items) c.deref.ensures.value c.in_ok-readers.ensures;
-      respect = respects c.args.types.now c.requires.formed order c.args.places.now o c.args.layouts.now all E e s c.in_ok-targets.targets.items c.in_ok-targets.ensures.targets;
+      respect = respects c.args.types.now c.requires.formed order c.args.places.now o c.args.layouts.now all E e s c.args.limit c.in_ok-targets.targets.items c.in_ok-targets.ensures.targets;
       coarser = start;
       alike = subst (IsCoarser c.args.types.now) (sym copy) start;
       marked = λ t l. inl (c.in_ok-changed.ensures t (let k = ap length copy ∙ c.in_ok-finer.ensures.fits in let n = c.count-2.ensures.number in omega arith));

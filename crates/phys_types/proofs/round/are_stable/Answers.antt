@@ -12,7 +12,7 @@ pub places-preserved : goal.places-preserved
 places-preserved c =
     compared_more (made_alike c.args.types.now (same_number (number_in c.args.numbers.now))) c.args.order.now c.args.numbers.now (get nat_eq c.places.firsts)
     (get nat_eq c.first_with.new.firsts) c.places.place c.in_ok-first.first c.number_of.result _ c.places-test.true c.number_of.ensures c.in_ok-first.ensures.here
-    c.in_ok-first.ensures.kept (λ e. c.look_alike_at.ensures e c.if-not-look_alike_at.false) c.places.invariant
+    c.in_ok-first.ensures.kept (λ e. c.in_ok-alike.ensures e c.if-not-alike.false) c.places.invariant
 
 pub returns : goal.returns
 returns c s t u a b h =

@@ -17,5 +17,5 @@ pub returns-in-Function : goal.returns-in-Function
 returns-in-Function c =
     subst (λ (xs : List TypeId). IfOk c.function_targets.result (λ targets. targets.items ≡ xs))
     (ap (λ (ps : List TypeId). flat_map (λ p. slot_targets (slot_in c.args.types.now p)) (c.in-Function.r ∷ ps)) c.ids.ensures
-    ∙ sym (ap (λ s. targets_of_shape c.args.types.now s c.args.layout.now) (sym c.shape.ensures ∙ c.in-Function.is)))
+    ∙ sym (ap (λ s. targets_of_shape c.args.types.now s c.args.spots.now) (sym c.shape.ensures ∙ c.in-Function.is)))
     c.function_targets.ensures

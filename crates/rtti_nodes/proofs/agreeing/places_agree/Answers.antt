@@ -1,5 +1,5 @@
 use Rattle.std.specs.Prelude.{length}
-use Rattle.std.proofs.Common.{false, true≢false, sym, ◌∙◌}
+use Rattle.std.proofs.Common.{true≢false, sym, ◌∙◌}
 use Rattle.cc_base.specs.Kinds.{kind_at}
 use Rattle.rtti_nodes.proofs.Depths.{agree_told, kinds_agree, numbers_agree, places_in_range}
 use Rattle.rtti_nodes.proofs.agreeing.places_agree.Goals as goal

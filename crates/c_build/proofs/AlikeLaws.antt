@@ -23,8 +23,8 @@ built_alike text t p s c built is plain =
     let number_of = node_at is.nodes in
     λ input turns bytes.
     subst (λ o. RunAlike (setting_of p kind) number_of o (flat_run c input turns)) (built.inferred.lowered.means kind input turns)
-    (plain-alike p kind number_of is.nodes.parents c input turns is.in_shape built.inferred.lowered.told built.inferred.solved.solution plain
-    is.cured bytes)
+    (plain-alike p kind number_of is.nodes.parents c is.in_shape built.inferred.lowered.told built.inferred.solved.solution plain is.cured input turns
+    bytes)
 
 -- a program whose nodes are SAFE or SEQ is plain: its unit converts no pointer to an integer
 pub kinds_alike : PlainKindsRunAlike

@@ -1,4 +1,3 @@
 pub mod Settings
 pub mod Codes
 pub mod Tabled
-pub mod Alike

@@ -1,6 +1,7 @@
 //! The one call of the curer.
 ghost use Rattle.std.specs.Prelude.{◌≡◌, IfOk, length};
 ghost use Rattle.cc_base.specs.Kinds.{kind_at};
+ghost use Rattle.cil_form.specs.Machine.{setting_of, code_run};
 ghost use Rattle.cil_form.specs.Shape.{IsInShape};
 ghost use Rattle.cil_form.specs.Told.{IsToldOf, IsSolutionOf};
 ghost use Rattle.cure_rules.specs.Programs.{IsCuredProgram};
@@ -8,7 +9,7 @@ ghost use Rattle.cure_ranges.specs.Bodies.{AreTargetsNamed};
 ghost use Rattle.cure_ready.specs.Curable.{HaveFewParameters};
 ghost use Rattle.rtti_nodes.specs.TypeNodes.{node_at};
 ghost use Rattle.sim_laws.specs.Plain.{IsPlainProgram};
-ghost use Rattle.cure_code.specs.Alike.{RunsAsCode};
+ghost use Rattle.sim_relation.specs.Outcomes.{RunsAlike};
 ghost use Rattle.cure_code.specs.Settings.{AreMade, IsSet, whole_in};
 ghost use Rattle.cure_code.specs.Tabled.{AreTables, whole_with};
 
@@ -165,7 +166,8 @@ pub fn cure(alloc: Global, code: &Cil, kinds: &Kinds, nodes: &Nodes<'_>) -> Resu
 
     // So it runs as its code, where the kinds make that plain.
     ensures alike { IfOk result (λ cured. IsPlainProgram code.now (kind_at kinds.now) →
-        RunsAsCode code.now (kind_at kinds.now) (node_at nodes.now) cured) }
+        RunsAlike (setting_of code.now (kind_at kinds.now)) (node_at nodes.now)
+        (code_run code.now (kind_at kinds.now)) cured) }
 {
     let program = code.program();
     let parents = nodes.parents();

@@ -1,5 +1,5 @@
 -- What `run` answers is what the C program does, where its kinds make it plain.
-use Rattle.std.proofs.Common.{◌≡◌, ◌∙◌, ℕ, List, [], IfSome, Some, ap, subst, sym, refl}
+use Rattle.std.proofs.Common.{◌≡◌, ◌∙◌, ◌≤◌, inl, inr, ℕ, List, [], IfSome, Some, ap, length, subst, sym, refl}
 use Rattle.cc_base.specs.Kinds.{kind_at}
 use Rattle.flat_mem.specs.Bytes.{AreBytes}
 use Rattle.runs.specs.Input.{Closed}
@@ -12,18 +12,20 @@ use Rattle.cured_code.specs.declared.parts.Parts.{Parts}
 use Rattle.cured_machine.specs.Runs.{IsEnding, Outside}
 use Rattle.cured_machine.specs.declared.ending.Ending.{Ending}
 use Rattle.cured_machine.specs.declared.ending.Ending.TheVariants as machine
-use Rattle.sim_relation.specs.Outcomes.{EndAlike}
-use Rattle.sim_laws.specs.Plain.{IsPlainProgram}
+use Rattle.sim_relation.specs.Outcomes.{EndAlike, RunAlike}
+use Rattle.cil_form.specs.Machine.{setting_of}
+use Rattle.rtti_nodes.specs.TypeNodes.{node_at}
 use Rattle.c_build.specs.Built.{IsCured}
-use Rattle.c_build.proofs.AlikeLaws.{built_alike}
+use Rattle.c_build.proofs.AlikeLaws.{built_alike, kinds_alike}
 use Rattle.command_words.specs.declared.command.Action.TheVariants.{Run}
 use Rattle.command_words.specs.Commands.{OnFile, command_of}
 use Rattle.program_answers.specs.Answers as answers
 use Rattle.program_answers.specs.Answers.{Answer, IsAnswerTo, IsFileAnswer, IsTextAnswer, answer_of_run}
 use Rattle.program_answers.specs.Causes.{Filed}
 use Rattle.program_answers.specs.Statuses.{GivesAnswer}
+use Rattle.program_answers.specs.Texts.{text_limit}
 use Rattle.program_answers.specs.Verdicts.{verdict_of_run}
-use Rattle.program_top.specs.AsSource.{GivesSourceAnswer, IsAnswerOf, IsSourceAnswer, IsVerdictOf, refused, runs, too_long, unit_run}
+use Rattle.program_top.specs.AsSource.{GivesSourceAnswer, IsAnswerOf, IsPlainBy, IsSourceAnswer, IsVerdictOf, refused, runs, too_long, unit_run}
 use Rattle.program_top.specs.Made.{texts}
 
 exited_as : (n m : ℕ) (e : Ending) → m ≡ n → IsEnding e (flat.Exited m) → IsVerdictOf (source.Exited n) (verdict_of_run e)
@@ -59,28 +61,36 @@ ended_so source.Turns flat.Turns e alike is = spent_as e is
 ended_so source.Wants flat.Wants e alike is = wants_none e is
 ended_so s f e alike is = absurd alike
 
+-- the cured program of a text runs as its unit
+runs_so : (text bytes : List ℕ) (turns : ℕ) (c : Parts) (cured : IsCured text c) → IsPlainBy cured.code cured.solved → AreBytes bytes
+    → RunAlike (setting_of cured.code (kind_at cured.solved.kinds)) (node_at cured.built.cured.nodes) (unit_run cured.typed cured.solved bytes turns) (flat_run c (Closed bytes) turns)
+runs_so text bytes turns c cured (inl plain) are_bytes =
+    built_alike text cured.typed cured.code cured.solved c cured.built cured.built.cured plain (Closed bytes) turns are_bytes
+runs_so text bytes turns c cured (inr kinds) are_bytes =
+    kinds_alike text cured.typed cured.code cured.solved c cured.built cured.built.cured kinds (Closed bytes) turns are_bytes
+
 -- the answer of a run of the cured program of a text
 answers_so : (text bytes : List ℕ) (turns : ℕ) (c : Parts) (cured : IsCured text c) (ending : Ending) (answer : Answer)
     → IsEnding ending (flat_run c (Closed bytes) turns).ending → answer ≡ answer_of_run [] c bytes turns ending
-    → IsPlainProgram cured.code (kind_at cured.solved.kinds) → AreBytes bytes
+    → IsPlainBy cured.code cured.solved → AreBytes bytes
     → IsAnswerOf (unit_run cured.typed cured.solved bytes turns) answer
 answers_so text bytes turns c cured ending answer ends same plain are_bytes =
-    let alike = built_alike text cured.typed cured.code cured.solved c cured.built cured.built.cured plain (Closed bytes) turns are_bytes in
+    let alike = runs_so text bytes turns c cured plain are_bytes in
     record {
       output = ap (λ a. a.output) same ∙ alike.output;
       verdict = subst (λ v. IsVerdictOf (unit_run cured.typed cured.solved bytes turns).ending v) (sym (ap (λ a. a.verdict) same))
           (ended_so (unit_run cured.typed cured.solved bytes turns).ending (flat_run c (Closed bytes) turns).ending ending alike.ending ends);
     }
 
-of_text : (text bytes : List ℕ) (turns : ℕ) (answer : Answer) → IsTextAnswer texts (Run turns) text bytes answer → IsSourceAnswer text bytes turns answer
-of_text text bytes turns answer (answers.refused verdict why same) = refused verdict why same
-of_text text bytes turns answer (answers.writes lines is same) = absurd is
-of_text text bytes turns answer (answers.runs c cured ending ends same) =
-    runs cured.typed cured.code cured.solved cured.built.inferred (answers_so text bytes turns c cured ending answer ends same)
+of_text : (text bytes : List ℕ) (turns : ℕ) (answer : Answer) → length text ≤ text_limit → IsTextAnswer texts (Run turns) text bytes answer → IsSourceAnswer text bytes turns answer
+of_text text bytes turns answer fits (answers.refused verdict why same) = refused fits verdict why same
+of_text text bytes turns answer fits (answers.writes lines is same) = absurd is
+of_text text bytes turns answer fits (answers.runs c cured ending ends same) =
+    runs fits cured.typed cured.code cured.solved cured.built.inferred (answers_so text bytes turns c cured ending answer ends same)
 
 of_file : (text bytes : List ℕ) (turns : ℕ) (answer : Answer) → IsFileAnswer texts (Run turns) text bytes answer → IsSourceAnswer text bytes turns answer
 of_file text bytes turns answer (answers.too_long most is_limit long same) = too_long (rw is_limit at long) (rw is_limit at same)
-of_file text bytes turns answer (answers.has_text fits is) = of_text text bytes turns answer is
+of_file text bytes turns answer (answers.has_text fits is) = of_text text bytes turns answer fits is
 
 module _ (words : List (List ℕ)) (files : Filed) (input output report : Outside) (status : ℕ) where
   -- the answer that is given, for a text of C

@@ -1,5 +1,5 @@
 -- What `run` answers, by the meaning of C itself.
-use Rattle.std.specs.Prelude.{ℕ, ◌≡◌, ◌<◌, List, length, IfSome}
+use Rattle.std.specs.Prelude.{ℕ, ◌≡◌, ◌<◌, ◌≤◌, ◌⊎◌, List, length, IfSome}
 use Rattle.cc_base.specs.Kinds.{kind_at}
 use Rattle.flat_mem.specs.Bytes.{AreBytes}
 use Rattle.runs.specs.Input.{Closed}
@@ -11,6 +11,7 @@ use Rattle.src_machine.specs.Machine.{source_run}
 use Rattle.cil_form.specs.declared.program.Program.{Program}
 use Rattle.kind_solver.specs.declared.solved.Solved.{Solved}
 use Rattle.sim_laws.specs.Plain.{IsPlainProgram}
+use Rattle.sim_laws.specs.PlainKinds.{ArePlainKinds}
 use Rattle.c_build.specs.Inferred.{IsInferred}
 use Rattle.cured_machine.specs.Runs.{Outside}
 use Rattle.cc_io.specs.Bytes.{Gains}
@@ -38,13 +39,17 @@ pub record IsAnswerOf (run : SourceOutcome) (answer : Answer) : Type 0 where
   pub output : answer.output ≡ run.output
   pub verdict : IsVerdictOf run.ending answer.verdict
 
--- THE ANSWER TO A TEXT OF C over an input of these bytes: it is too long, or refused, or it runs; and where its kinds make its code plain, it runs
--- as the meaning of C says.
+-- the kinds make the code plain, as they do where each of its nodes is SAFE or SEQ
+abbrev pub IsPlainBy : Program → Solved → Type 0
+IsPlainBy p s = IsPlainProgram p (kind_at s.kinds) ⊎ ArePlainKinds p.nodes (kind_at s.kinds)
+
+-- THE ANSWER TO A TEXT OF C over an input of these bytes: it is too long; or it isn't, and is refused, or runs; and where its kinds make its code
+-- plain, it runs as the meaning of C says.
 pub data IsSourceAnswer (text bytes : List ℕ) (turns : ℕ) (answer : Answer) : Type 0 where
   too_long : text_limit < length text → answer ≡ silent (TextTooLong text_limit) → IsSourceAnswer text bytes turns answer
-  refused : (verdict : Verdict) → IsRefusedWith texts text verdict → answer ≡ silent verdict → IsSourceAnswer text bytes turns answer
-  runs : (typed : Typed) (code : Program) (solved : Solved) → IsInferred text typed code solved
-      → (IsPlainProgram code (kind_at solved.kinds) → AreBytes bytes → IsAnswerOf (unit_run typed solved bytes turns) answer)
+  refused : length text ≤ text_limit → (verdict : Verdict) → IsRefusedWith texts text verdict → answer ≡ silent verdict → IsSourceAnswer text bytes turns answer
+  runs : length text ≤ text_limit → (typed : Typed) (code : Program) (solved : Solved) → IsInferred text typed code solved
+      → (IsPlainBy code solved → AreBytes bytes → IsAnswerOf (unit_run typed solved bytes turns) answer)
       → IsSourceAnswer text bytes turns answer
 
 -- What is written, the report and the status are those of the answer to the file's text over all that the input held. Where the file isn't told,

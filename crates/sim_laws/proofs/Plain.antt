@@ -418,7 +418,7 @@ module _ (p : Program) (kind : NodeId → Kind) (node : TypeId → ℕ) (parents
 
 -- THE THEOREM OF PLAIN PROGRAMS
 pub plain-alike : PlainProgramsRunAlike
-plain-alike p kind node parents parts input turns shaped told solution plain is bytes =
+plain-alike p kind node parents parts shaped told solution plain is input turns bytes =
     runs-alike p kind node parents parts p.sites input turns shaped is (frame-laws p kind node parents parts shaped told solution is plain)
     (instruction-laws p kind node parents parts shaped told solution is plain)
     (started p kind node is.numbers parents parts shaped told solution is.are_cured input bytes turns)

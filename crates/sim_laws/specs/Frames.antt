@@ -3,16 +3,12 @@ use Rattle.std.specs.Prelude.{ℕ, List}
 use Rattle.cc_base.specs.declared.kind.Kind.{Kind}
 use Rattle.cc_base.specs.declared.number.NodeId.{NodeId}
 use Rattle.cc_base.specs.declared.number.TypeId.{TypeId}
-use Rattle.flat_mem.specs.Bytes.{AreBytes}
-use Rattle.runs.specs.Input.{Input}
-use Rattle.src_mem.specs.State.{bytes_of}
 use Rattle.cil_form.specs.declared.program.Program.{Program}
 use Rattle.cil_form.specs.Shape.{IsInShape}
 use Rattle.cil_form.specs.Told.{IsToldOf, IsSolutionOf}
 use Rattle.cil_form.specs.Machine.{setting_of, code_run}
 use Rattle.cured_code.specs.declared.parts.Parts.{Parts}
-use Rattle.cured_code.specs.FlatMachine.{flat_run}
-use Rattle.sim_relation.specs.Outcomes.{RunAlike}
+use Rattle.sim_relation.specs.Outcomes.{RunsAlike}
 use Rattle.cure_rules.specs.Programs.{IsCuredProgram}
 use Rattle.sim_laws.specs.Scenes.{Programs}
 use Rattle.sim_laws.specs.Runs.{programs_of}
@@ -25,6 +21,6 @@ OfCuredPrograms P = (p : Program) (kind : NodeId → Kind) (node : TypeId → �
 
 -- THE THEOREM OF PLAIN PROGRAMS: without any premise on instructions, frames or the start.
 abbrev pub PlainProgramsRunAlike : Type 0
-PlainProgramsRunAlike = (p : Program) (kind : NodeId → Kind) (node : TypeId → ℕ) (parents : List ℕ) (parts : Parts) (input : Input) (turns : ℕ)
-    → IsInShape p → IsToldOf p → IsSolutionOf p kind → IsPlainProgram p kind → IsCuredProgram p kind node parents parts → AreBytes (bytes_of input)
-    → RunAlike (setting_of p kind) node (code_run p kind input turns) (flat_run parts input turns)
+PlainProgramsRunAlike = (p : Program) (kind : NodeId → Kind) (node : TypeId → ℕ) (parents : List ℕ) (parts : Parts)
+    → IsInShape p → IsToldOf p → IsSolutionOf p kind → IsPlainProgram p kind → IsCuredProgram p kind node parents parts
+    → RunsAlike (setting_of p kind) node (code_run p kind) parts

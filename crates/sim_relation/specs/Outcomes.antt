@@ -1,11 +1,14 @@
 -- What two whole runs have in common: how they end, what they gave out and read, that the cured one was faithful, and its bytes at the end.
 use Rattle.std.specs.Prelude.{◌≡◌, ℕ, suc, length, map}
 use Rattle.cc_base.specs.declared.number.TypeId.{TypeId}
+use Rattle.flat_mem.specs.Bytes.{AreBytes}
+use Rattle.runs.specs.Input.{Input}
 use Rattle.src_mem.specs.State as source
-use Rattle.src_mem.specs.State.{Setting}
+use Rattle.src_mem.specs.State.{Setting, bytes_of}
 use Rattle.src_mem.specs.Runs.{SourceOutcome}
 use Rattle.cured_code.specs.FlatState as flat
-use Rattle.cured_code.specs.FlatMachine.{FlatOutcome}
+use Rattle.cured_code.specs.FlatMachine.{FlatOutcome, flat_run}
+use Rattle.cured_code.specs.declared.parts.Parts.{Parts}
 use Rattle.sim_relation.specs.Ground.{Ground, ground}
 use Rattle.sim_relation.specs.Objects.{HoldsAll}
 use Rattle.sim_relation.specs.Accesses.{AreImages}
@@ -41,3 +44,8 @@ pub record RunAlike (w : Setting) (number_of : TypeId → ℕ) (o : SourceOutcom
   pub read : f.read ≡ o.read
   pub faithful : IsFaithful w number_of o f
   pub memory : StandsForMemory w number_of o f
+
+-- The cured program runs as a program whose runs are these, for every input of bytes and every number of turns, where RTTI pointers carry these
+-- numbers of type nodes.
+abbrev pub RunsAlike : Setting → (TypeId → ℕ) → (Input → ℕ → SourceOutcome) → Parts → Type 0
+RunsAlike w number_of run c = (input : Input) (turns : ℕ) → AreBytes (bytes_of input) → RunAlike w number_of (run input turns) (flat_run c input turns)

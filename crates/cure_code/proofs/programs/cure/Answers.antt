@@ -19,9 +19,9 @@ returns c =
     c.in_ok-t.ensures c.in_ok-functions.ensures c.parts.ensures c.in-Some.ensures.value in
     record {
       curing = is;
-      alike = λ plain input turns bytes.
-          plain-alike c.args.code.now (kind_at c.args.kinds.now) (node_at c.args.nodes.now) c.args.nodes.now.parents c.in-Some.cured input turns
-          c.program-program.ensures.in_shape c.requires.told c.requires.solution plain is bytes;
+      alike = λ plain.
+          plain-alike c.args.code.now (kind_at c.args.kinds.now) (node_at c.args.nodes.now) c.args.nodes.now.parents c.in-Some.cured
+          c.program-program.ensures.in_shape c.requires.told c.requires.solution plain is;
     }
 
 -- the parts are in range

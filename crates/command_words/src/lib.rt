@@ -5,8 +5,6 @@ mod command;
 mod fault;
 mod numbers;
 mod parsed;
-#[cfg(test)]
-mod tests;
 mod words;
 
 pub use command::{Action, Command};

@@ -57,9 +57,6 @@ pub spot_tells : (ss : List Spot) (i : ℕ) (d : Spot) (x : Option HeldPointer) 
     → (p : HeldPointer) → x ≡ Some p → IsAtSpot ss i p
 spot_tells ss i d x l e p h = (get_or ss i d, slice_get-get_or ss i d l, sym e ∙ h)
 
-pub spots_within : (xs ys : List Spot) (n i : ℕ) (p q : HeldPointer) → IsAtSpot xs i p → IsAtSpot ys i q → min (length xs) (length ys) ≤ n → i < n
-spots_within xs ys n i p q (s, a, b) (r, c, d) l = let g = slice_get_within xs i s a in let k = slice_get_within ys i r c in omega arith
-
 -- ---- types
 
 pub slot_told : (table : Table) (ts : List TypeId) (i : ℕ) (d : TypeId) (x : Option HeldPointer) → i < length ts → x ≡ pointer_of_shape (shape_at table (get_or ts i d))

@@ -44,7 +44,7 @@ shifted_at n [] i s h = absurd (no_spot s h)
 shifted_at n (x ∷ ss) zero s h = (x, refl, ap (λ (z : Spot). z.start) (sym (same_there (shifted n x) s h)))
 shifted_at n (x ∷ ss) (suc i) s h = shifted_at n ss i s h
 
-append_at : (xs ys : List Spot) (i : ℕ) (s : Spot) → slice_get (xs ++ ys) i ≡ Some s
+pub append_at : (xs ys : List Spot) (i : ℕ) (s : Spot) → slice_get (xs ++ ys) i ≡ Some s
     → ((i < length xs) × (slice_get xs i ≡ Some s)) ⊎ ((length xs ≤ i) × (slice_get ys (i - length xs) ≡ Some s))
 append_at [] ys i s h = inr (omega arith, ap (slice_get ys) (none i) ∙ h)
   where
@@ -59,7 +59,7 @@ append_at (x ∷ xs) ys (suc i) s h = elim (append_at xs ys i s h) [
     next : (i n : ℕ) → suc i - suc n ≡ i - n
     next i n = omega arith
 
-less_mod : (k i : ℕ) → k ≤ i → (i - k) % k ≡ i % k
+pub less_mod : (k i : ℕ) → k ≤ i → (i - k) % k ≡ i % k
 less_mod k i l = sym (add-mod_left k (i - k)) ∙ ap (λ j. j % k) (back k i l)
   where
     back : (k i : ℕ) → k ≤ i → k + (i - k) ≡ i

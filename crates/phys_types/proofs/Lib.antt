@@ -24,6 +24,8 @@ pub mod SpotPointers
 pub mod Reached
 pub mod Turns
 pub mod Columns
+pub mod InCopies
+pub mod BeginsByPart
 pub mod AddLemmas
 pub mod EachAlike
 pub mod Crossed

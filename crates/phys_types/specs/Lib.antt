@@ -14,4 +14,5 @@ pub mod Laws
 pub mod Pairs
 pub mod Found
 pub mod Standing
+pub mod InTurn
 pub mod Theorems

@@ -1,19 +1,21 @@
 //! The pointers at the same places of two types.
 #![tactic(auto)]
 
-ghost use Rattle.std.specs.Prelude.{◌≡◌, OnOk, IsTrue};
+ghost use Rattle.std.specs.Prelude.{◌≡◌, ◌*◌, ◌<◌, ◌≤◌, ◌⊎◌, ◌^◌, ◌-◌, length, min, OnOk, IsTrue};
 ghost use Rattle.std.specs.List.{All};
 ghost use Rattle.c_types.specs.Table.{IsType, shape_at};
 ghost use Rattle.c_types.specs.Equality.{physically_equal};
 ghost use Rattle.c_types.specs.Flows.{StandAlike, pointer_of_shape};
 ghost use Rattle.c_types.specs.Sound.{IsWellFormed};
 ghost use Rattle.phys_types.specs.Found.{Gains};
-ghost use Rattle.phys_types.specs.Shown.{IsLayoutOf};
-ghost use Rattle.phys_types.specs.Standing.{shown, pointer_of_item, AreBoth, IsAtSpot, IsAtSlot, StandInTurn};
+ghost use Rattle.phys_types.specs.InTurn.{IsInTurn, IsTurn};
+ghost use Rattle.phys_types.specs.Shown.{IsKeptOf, all_spots};
+ghost use Rattle.phys_types.specs.Standing.{shown, pointer_of_item, AreBoth, IsAtSpot, IsAtSlot, StandInTurn, StandBefore};
 
 use crate::found::Found;
 use crate::held::Held;
-use crate::spot::{Item, Layout, Spot};
+use crate::keeping::Repeated;
+use crate::spot::{Item, Spot};
 use c_types::{TypeShape, Types};
 use cc_base::{NoMemory, TypeId};
 
@@ -51,15 +53,64 @@ fn add_both(found: &mut Found, p: Option<Held>, q: Option<Held>) -> Result<(), N
     }
 }
 
-/// Adds the pointers that have the same number among two lists of spots.
-pub(crate) fn add_spots(found: &mut Found, xs: &[Spot], ys: &[Spot]) -> Result<(), NoMemory>
-    ensures { OnOk result (Gains (StandInTurn (IsAtSpot xs.now) (IsAtSpot ys.now)) found.old
+/// Adds the pointers that have the same number, below `count`, among two lists of spots that stand again and again.
+fn add_turns(found: &mut Found, xs: &[Spot], ys: &[Spot], count: usize) -> Result<(), NoMemory>
+    requires first { 0 < length xs.now }
+    requires second { 0 < length ys.now }
+    ensures { OnOk result (Gains (StandBefore count (IsInTurn xs.now) (IsInTurn ys.now)) found.old
         found.new) }
 {
-    'spots: for i in 0..xs.len().min(ys.len()) {
-        add_both(found, pointer_at(xs[i]), pointer_at(ys[i]))?;
+    'turns: for i in 0..count {
+        let p = pointer_at(xs[i % xs.len()]);
+        let q = pointer_at(ys[i % ys.len()]);
+        add_both(found, p, q)?;
     }
     Ok(())
+}
+
+/// After how many spots two lists of so many begin anew at once.
+fn unit(k: usize, l: usize) -> usize
+    requires first { 0 < k }
+    requires second { 0 < l }
+    ensures { result < 2 ^ 64 - 1 → IsTurn k l result }
+{
+    if k % l == 0 {
+        k
+    } else if l % k == 0 {
+        l
+    } else {
+        k.saturating_mul(l)
+    }
+}
+
+/// How many spots to go over, of `m` that are `k` again and again and `n` that are `l`, to see each pair that has the same number.
+fn turns(k: usize, m: usize, l: usize, n: usize) -> usize
+    requires first { 0 < k }
+    requires second { 0 < l }
+    ensures within_first { result ≤ m }
+    ensures within_second { result ≤ n }
+    ensures all { (result ≡ min m n) ⊎ IsTurn k l result }
+{
+    let all = m.min(n);
+    let turn = unit(k, l);
+    if turn < all { turn } else { all }
+}
+
+/// Adds the pointers that have the same number among the spots of two layouts of copies. Goes over those of one copy of each, or of
+/// as many as begin anew at once.
+pub(crate) fn add_copies(found: &mut Found, x: &Repeated, y: &Repeated) -> Result<(), NoMemory>
+    requires first { x.now.count * length x.now.part.spots.items ≤ 1048576 }
+    requires second { y.now.count * length y.now.part.spots.items ≤ 1048576 }
+    ensures { OnOk result (Gains (StandInTurn (IsAtSpot (all_spots x.now))
+        (IsAtSpot (all_spots y.now))) found.old found.new) }
+{
+    let k = x.part.spots.len();
+    let l = y.part.spots.len();
+    if k == 0 || l == 0 {
+        return Ok(());
+    }
+    let count = turns(k, x.count as usize * k, l, y.count as usize * l);
+    add_turns(found, &x.part.spots, &y.part.spots, count)
 }
 
 /// Adds the pointers that have the same number among two lists of types.
@@ -81,16 +132,16 @@ pub(crate) fn add_alike(
     types: &Types,
     found: &mut Found,
     t: TypeId,
-    x: &Layout,
+    x: &Repeated,
     u: TypeId,
-    y: &Layout,
+    y: &Repeated,
 ) -> Result<(), NoMemory>
     requires formed { IsWellFormed types.now }
     requires first { IsType types.now t }
     requires second { IsType types.now u }
     requires equal { IsTrue (physically_equal types.now t u) }
-    requires first_layout { IsLayoutOf types.now (physically_equal types.now) t x.now }
-    requires second_layout { IsLayoutOf types.now (physically_equal types.now) u y.now }
+    requires first_kept { IsKeptOf types.now (physically_equal types.now) t x.now }
+    requires second_kept { IsKeptOf types.now (physically_equal types.now) u y.now }
     ensures { OnOk result (Gains (StandAlike types.now t u) found.old found.new) }
 {
     match types.shape(t) {
@@ -101,6 +152,6 @@ pub(crate) fn add_alike(
             }
             _ => Ok(()),
         },
-        _ => add_spots(found, &x.spots, &y.spots),
+        _ => add_copies(found, x, y),
     }
 }

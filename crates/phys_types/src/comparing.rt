@@ -1,11 +1,13 @@
 //! Layouts compared under numbers for what their pointers point to.
 #![tactic(auto)]
 
-ghost use Rattle.std.specs.Prelude.{ℕ, ◌≡◌, ◌+◌, ◌<◌, ◌≤◌, ◌&&◌, length, nat_le};
+ghost use Rattle.std.specs.Prelude.{ℕ, ◌≡◌, ◌+◌, ◌<◌, ◌≤◌, ◌&&◌, length, nat_le, IsTrue};
 ghost use Rattle.std.specs.Int.{IsGcd};
 ghost use Rattle.phys_types.specs.Spots.{AreSpots, item_size};
 ghost use Rattle.phys_types.specs.Numbers.{number_in, same_item, same_spot, same_spots, start_from, begin_with_spots, spots_before, end_within, AreLow};
+ghost use Rattle.phys_types.specs.Shown.{all_size, all_spots};
 
+use crate::keeping::Repeated;
 use crate::spot::{Item, Layout, Spot};
 use cc_base::TypeId;
 
@@ -85,6 +87,17 @@ pub(crate) fn begins(numbers: &[usize], x: &Layout, y: &Layout) -> bool
         (number_in numbers.now) y.now.size x.now.spots.items y.now.spots.items) }
 {
     y.size <= x.size && begin_with_spots(numbers, y.size, &x.spots, &y.spots)
+}
+
+/// Whether layouts of copies of the same part show by one copy that the first begins with the second.
+pub(crate) fn begins_by_part(numbers: &[usize], x: &Repeated, y: &Repeated) -> bool
+    ensures { IsTrue result → IsTrue (nat_le (all_size y.now) (all_size x.now) && begin_with_spots
+        (number_in numbers.now) (all_size y.now) (all_spots x.now) (all_spots y.now)) }
+{
+    if x.part.size != y.part.size || x.count < y.count {
+        return false;
+    }
+    same_spots(numbers, &x.part.spots, &y.part.spots)
 }
 
 /// The spots up to the first that begins at `n` or later.

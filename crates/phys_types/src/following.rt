@@ -11,16 +11,14 @@ ghost use Rattle.phys_types.specs.Rounds.{AreAllKept};
 ghost use Rattle.phys_types.specs.Standing.{AreEqualTypes, CorrespondInSome};
 
 use crate::alike::add_alike;
-use crate::building::lend_type;
+use crate::building::kept;
 use crate::found::Found;
 use crate::keeping::Repeated;
 use c_types::Types;
 use cc_base::{NoMemory, TypeId};
-use std::alloc::Global;
 
 /// Adds the pointers at the same places of two physically equal types.
 fn add_equal(
-    alloc: Global,
     types: &Types,
     places: &[usize],
     layouts: &[Repeated],
@@ -33,16 +31,15 @@ fn add_equal(
     requires equal { AreEqualTypes types.now t u }
     ensures { OnOk result (Gains (StandAlike types.now t u) found.old found.new) }
 {
-    let x = lend_type(alloc, places, layouts, t)?;
-    let y = lend_type(alloc, places, layouts, u)?;
-    add_alike(types, found, t, x.layout(), u, y.layout())
+    let x = kept(places, layouts, t);
+    let y = kept(places, layouts, u);
+    add_alike(types, found, t, x, u, y)
 }
 
 /// Adds the pointers that correspond by place, at every depth, in the pairs of types that are found.
 ///
 /// The pairs of types are a queue: those that a pair leads to are added behind it, and none is there twice.
 pub(crate) fn follow(
-    alloc: Global,
     types: &Types,
     places: &[usize],
     layouts: &[Repeated],
@@ -57,7 +54,7 @@ pub(crate) fn follow(
 {
     let mut i = 0;
     'queue: while let Some((t, u)) = found.pointees(i) {
-        add_equal(alloc, types, places, layouts, found, t, u)?;
+        add_equal(types, places, layouts, found, t, u)?;
         i += 1;
     }
     Ok(())

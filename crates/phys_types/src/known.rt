@@ -19,9 +19,9 @@ ghost use Rattle.phys_types.specs.Rounds.{TellEqual};
 ghost use Rattle.phys_types.specs.Shown.{IsLayoutOf, IsKeptOf};
 ghost use Rattle.phys_types.specs.Standing.{AreEqualTypes, CorrespondInSome};
 
-use crate::alike::{add_alike, add_spots};
+use crate::alike::{add_alike, add_copies};
 use crate::building::{kept, lend_type};
-use crate::comparing::{begins, number_of};
+use crate::comparing::{begins, begins_by_part, number_of};
 use crate::firsts::firsts_of;
 use crate::following::follow;
 use crate::found::Found;
@@ -146,6 +146,9 @@ impl<'a> Known<'a> {
         if is_one_function(self.types, t, u) {
             return Ok(false);
         }
+        if begins_by_part(&self.numbers, self.repeated(t), self.repeated(u)) {
+            return Ok(true);
+        }
         let x = self.layout(t)?;
         let y = self.layout(u)?;
         Ok(begins(&self.numbers, x.layout(), y.layout()))
@@ -233,18 +236,9 @@ impl<'a> Known<'a> {
         ensures { OnOk result (Gains (CorrespondAtTop self.now
             (flow_class self.now from to) from to) found.old found.new) }
     {
-        let x = self.layout(from)?;
-        let y = self.layout(to)?;
-        add_top(
-            self.alloc,
-            self.types,
-            found,
-            class,
-            from,
-            x.layout(),
-            to,
-            y.layout(),
-        )
+        let x = self.repeated(from);
+        let y = self.repeated(to);
+        add_top(self.alloc, self.types, found, class, from, x, to, y)
     }
 
     /// Adds the pointers at the same places of two types of which one begins with the other, or which are physically equal, but not
@@ -256,14 +250,12 @@ impl<'a> Known<'a> {
             ⊎ IsTrue (begins_with self.now u t) }
         ensures { OnOk result (Gains (StandAlike self.now t u) found.old found.new) }
     {
-        let lent = self.layout(t)?;
-        let other = self.layout(u)?;
-        let x = lent.layout();
-        let y = other.layout();
+        let x = self.repeated(t);
+        let y = self.repeated(u);
         if self.is_equal(t, u) {
             add_alike(self.types, found, t, x, u, y)
         } else {
-            add_spots(found, &x.spots, &y.spots)
+            add_copies(found, x, y)
         }
     }
 
@@ -274,6 +266,6 @@ impl<'a> Known<'a> {
         ensures { OnOk result (Gains (CorrespondInSome self.now found.old.pointees) found.old
             found.new) }
     {
-        follow(self.alloc, self.types, &self.places, &self.layouts, found)
+        follow(self.types, &self.places, &self.layouts, found)
     }
 }

@@ -17,7 +17,7 @@ ghost use Rattle.phys_types.specs.Orders.{IsWholeOrder};
 ghost use Rattle.phys_types.specs.Rounds.{AreSettled};
 ghost use Rattle.phys_types.specs.Views.{IsPair};
 
-use crate::building::lend_type;
+use crate::building::{kept, lend_type};
 use crate::comparing::{begins, number_of};
 use crate::following::follow;
 use crate::found::Found;
@@ -105,19 +105,10 @@ pub(crate) fn settled_pairs(
 {
     let class = settled_class(alloc, types, order, places, numbers, layouts, from, to)?;
     let mut found = Found::new(alloc);
-    let x = lend_type(alloc, places, layouts, from)?;
-    let y = lend_type(alloc, places, layouts, to)?;
-    add_top(
-        alloc,
-        types,
-        &mut found,
-        class,
-        from,
-        x.layout(),
-        to,
-        y.layout(),
-    )?;
-    follow(alloc, types, places, layouts, &mut found)?;
+    let x = kept(places, layouts, from);
+    let y = kept(places, layouts, to);
+    add_top(alloc, types, &mut found, class, from, x, to, y)?;
+    follow(types, places, layouts, &mut found)?;
     found.into_nodes(alloc)
 }
 

@@ -2,9 +2,12 @@ use Rattle.std.proofs.Common.{sym, subst, ◌∙◌}
 use Rattle.std.specs.List.{All}
 use Rattle.std.proofs.lemmas.Result.{on_ok_weaker}
 use Rattle.c_types.specs.Table.{IsType}
+use Rattle.c_types.specs.Equality.{physically_equal}
+use Rattle.phys_types.specs.Shown.{all_spots}
 use Rattle.phys_types.specs.Standing.{shown}
 use Rattle.phys_types.proofs.Makeups.{named_types, all_tail}
 use Rattle.phys_types.proofs.EachAlike.{no_function, data_alike, function_alike, none_alike}
+use Rattle.phys_types.proofs.InCopies.{kept_few, kept_whole}
 use Rattle.phys_types.proofs.alike.add_alike.Goals as goal
 
 pub add_slots-requires-clause-first : goal.add_slots-requires-clause-first
@@ -33,10 +36,19 @@ returns-in_default-shape c =
     absurd (none_alike c.args.types.now c.requires.formed c.args.t c.args.u c.requires.equal c.in-Function.ps c.in-Function.r (sym c.shape.ensures ∙ c.in-Function.is)
     (no_function c.args.types.now c.args.u (λ ps r e. c.in_default-shape.not-Function ps r (c.shape-in-Function.ensures ∙ e))))
 
+pub add_copies-requires-clause-first : goal.add_copies-requires-clause-first
+add_copies-requires-clause-first c = kept_few c.args.types.now c.requires.formed (physically_equal c.args.types.now) c.args.t c.args.x.now c.requires.first_kept
+
+pub add_copies-requires-clause-second : goal.add_copies-requires-clause-second
+add_copies-requires-clause-second c = kept_few c.args.types.now c.requires.formed (physically_equal c.args.types.now) c.args.u c.args.y.now c.requires.second_kept
+
 pub returns-in_default : goal.returns-in_default
 returns-in_default c =
-    on_ok_weaker c.add_spots.result
-    (data_alike c.args.types.now c.requires.formed c.args.t c.args.u c.requires.equal c.args.x.now c.args.y.now c.deref.result.now c.deref-in_default.result.now
-    c.args.found.now c.add_spots.new.found c.requires.first c.requires.second c.requires.first_layout c.requires.second_layout
-    (no_function c.args.types.now c.args.t (λ ps r e. c.in_default.not-Function ps r (c.shape.ensures ∙ e))) c.deref.ensures.value c.deref-in_default.ensures.value)
-    c.add_spots.ensures
+    let table = c.args.types.now in
+    let v = kept_whole table c.requires.formed (physically_equal table) c.args.t c.args.x.now c.requires.first_kept in
+    let z = kept_whole table c.requires.formed (physically_equal table) c.args.u c.args.y.now c.requires.second_kept in
+    on_ok_weaker c.add_copies.result
+    (data_alike table c.requires.formed c.args.t c.args.u c.requires.equal v.0 z.0 (all_spots c.args.x.now) (all_spots c.args.y.now)
+    c.args.found.now c.add_copies.new.found c.requires.first c.requires.second v.4 z.4
+    (no_function table c.args.t (λ ps r e. c.in_default.not-Function ps r (c.shape.ensures ∙ e))) v.1 z.1)
+    c.add_copies.ensures

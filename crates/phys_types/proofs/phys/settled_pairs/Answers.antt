@@ -4,40 +4,30 @@ use Rattle.std.specs.List.{AllPairs}
 use Rattle.std.proofs.lemmas.Result.{IfOk-weaker}
 use Rattle.cc_base.specs.declared.number.NodeId.{NodeId}
 use Rattle.c_types.specs.Equality.{physically_equal}
-use Rattle.phys_types.specs.Shown.{IsLayoutOf}
+use Rattle.phys_types.specs.Shown.{IsKeptOf}
 use Rattle.phys_types.proofs.Viewing.{kept_in, kept_is, all_kept}
 use Rattle.phys_types.proofs.AllPairsFound.{found_equal, found_nodes}
 use Rattle.phys_types.proofs.phys.settled_pairs.Goals as goal
 
-pub lend_type-requires-clause-kept : goal.lend_type-requires-clause-kept
-lend_type-requires-clause-kept c =
+pub kept-x-requires : goal.kept-x-requires
+kept-x-requires c =
     kept_in c.args.types.now c.args.order.now c.args.places.now c.requires.order c.args.numbers.now c.args.layouts.now c.requires.settled c.args.from c.requires.from
 
-pub lend_type-requires-clause-low : goal.lend_type-requires-clause-low
-lend_type-requires-clause-low c =
-    (all_kept c.args.types.now c.args.order.now c.args.places.now c.requires.order c.args.numbers.now c.args.layouts.now c.requires.settled c.requires.formed).low
-
-pub lend_type-requires-2-clause-kept : goal.lend_type-requires-2-clause-kept
-lend_type-requires-2-clause-kept c =
+pub kept-y-requires : goal.kept-y-requires
+kept-y-requires c =
     kept_in c.args.types.now c.args.order.now c.args.places.now c.requires.order c.args.numbers.now c.args.layouts.now c.requires.settled c.args.to c.requires.to
 
-pub lend_type-requires-2-clause-low : goal.lend_type-requires-2-clause-low
-lend_type-requires-2-clause-low c =
-    (all_kept c.args.types.now c.args.order.now c.args.places.now c.requires.order c.args.numbers.now c.args.layouts.now c.requires.settled c.requires.formed).low
-
-pub add_top-requires-clause-from_layout : goal.add_top-requires-clause-from_layout
-add_top-requires-clause-from_layout c =
+pub add_top-requires-clause-from_kept : goal.add_top-requires-clause-from_kept
+add_top-requires-clause-from_kept c =
     let table = c.args.types.now in
-    subst (IsLayoutOf table (physically_equal table) c.args.from) (sym c.layout.ensures)
-    (c.in_ok-x.ensures table (physically_equal table) c.args.from
-    (λ d. kept_is table c.args.order.now c.args.places.now c.requires.order c.args.numbers.now c.args.layouts.now c.requires.settled c.args.from d c.requires.from))
+    subst (IsKeptOf table (physically_equal table) c.args.from) (sym (c.kept-x.ensures c.kept-x.result.now))
+    (kept_is table c.args.order.now c.args.places.now c.requires.order c.args.numbers.now c.args.layouts.now c.requires.settled c.args.from c.kept-x.result.now c.requires.from)
 
-pub add_top-requires-clause-to_layout : goal.add_top-requires-clause-to_layout
-add_top-requires-clause-to_layout c =
+pub add_top-requires-clause-to_kept : goal.add_top-requires-clause-to_kept
+add_top-requires-clause-to_kept c =
     let table = c.args.types.now in
-    subst (IsLayoutOf table (physically_equal table) c.args.to) (sym c.layout-2.ensures)
-    (c.in_ok-y.ensures table (physically_equal table) c.args.to
-    (λ d. kept_is table c.args.order.now c.args.places.now c.requires.order c.args.numbers.now c.args.layouts.now c.requires.settled c.args.to d c.requires.to))
+    subst (IsKeptOf table (physically_equal table) c.args.to) (sym (c.kept-y.ensures c.kept-y.result.now))
+    (kept_is table c.args.order.now c.args.places.now c.requires.order c.args.numbers.now c.args.layouts.now c.requires.settled c.args.to c.kept-y.result.now c.requires.to)
 
 pub follow-requires-clause-kept : goal.follow-requires-clause-kept
 follow-requires-clause-kept c =

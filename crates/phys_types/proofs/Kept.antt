@@ -33,7 +33,7 @@ zero_plus n = omega arith
 once : (n : ℕ) → 1 * n ≡ n
 once n = omega arith
 
-unmoved : (ss : List Spot) → map (shifted 0) ss ≡ ss
+pub unmoved : (ss : List Spot) → map (shifted 0) ss ≡ ss
 unmoved [] = refl
 unmoved (s ∷ ss) = λ i. record { start = still s.start i; item = s.item } ∷ unmoved ss i
   where
@@ -130,6 +130,26 @@ module _ (table : Table) (E : Relation) (t : TypeId) where
     holds = h.holds;
   }
 
+  -- copies of a part that are the type's cells are kept as they are, or as a part and a count
+  pub times_kept : (n : ℕ) (part : Layout) → 0 < n → AreSpots (size_of table) 0 part.spots.items part.size
+      → cells_from 0 (copies n part.size 0 part.spots.items) (n * part.size) ≡ cells_at table E t → part.holds ≡ holds_pointer table t
+      → (x : Repeated) → IsTimes n part x → IsKeptOf table E t x
+  times_kept n part l a c h x (inl (f, m)) = record {
+    some = subst (λ (k : ℕ). 0 < k) (sym f) l;
+    spots = subst (AreSpots (size_of table) 0 x.part.spots.items) (sym m.size_is) (subst (λ (ss : List Spot). AreSpots (size_of table) 0 ss part.size) (sym m.spots_are) a);
+    cells = (λ i. cells_from 0 (copies (f i) (m.size_is i) 0 (m.spots_are i)) (f i * m.size_is i)) ∙ c;
+    holds = m.holds_are ∙ h;
+  }
+  times_kept n part l a c h x (inr (f, m)) =
+      once_kept x f
+      (record {
+        spots =
+            subst (AreSpots (size_of table) 0 x.part.spots.items) (sym m.size_is)
+            (subst (λ (ss : List Spot). AreSpots (size_of table) 0 ss (n * part.size)) (sym m.spots_are) (copied_spots (size_of table) n part.size part.spots.items a));
+        cells = (λ i. cells_from 0 (m.spots_are i) (m.size_is i)) ∙ c;
+        holds = m.holds_are ∙ h;
+      })
+
 -- ---- an array
 
 module _ (table : Table) (w : IsWellFormed table) (E : Relation) (t element : TypeId) (n : ℕ) (e : shape_at table t ≡ Array element n) where
@@ -202,26 +222,9 @@ module _ (table : Table) (w : IsWellFormed table) (E : Relation) (t element : Ty
     count_some = let l = no_less n k.count some_elements in let b = h.some in omega arith
 
     pub array_kept : (x : Repeated) → IsTimes (n * k.count) k.part x → IsKeptOf table E t x
-    array_kept x (inl (f, m)) = record {
-      some = subst (λ (c : ℕ). 0 < c) (sym f) count_some;
-      spots = subst (AreSpots (size_of table) 0 x.part.spots.items) (sym m.size_is) (subst (λ (ss : List Spot). AreSpots (size_of table) 0 ss k.part.size) (sym m.spots_are) h.spots);
-      cells =
-          (λ i. cells_from 0 (copies (f i) (m.size_is i) 0 (m.spots_are i)) (f i * m.size_is i))
-          ∙ copied_cells (size_of table) (n * k.count) k.part.size k.part.spots.items h.spots ∙ all_cells;
-      holds = m.holds_are ∙ h.holds ∙ sym array_holds;
-    }
-    array_kept x (inr (f, m)) =
-        once_kept table E t x f
-        (record {
-          spots =
-              subst (AreSpots (size_of table) 0 x.part.spots.items) (sym m.size_is)
-              (subst (λ (ss : List Spot). AreSpots (size_of table) 0 ss ((n * k.count) * k.part.size)) (sym m.spots_are)
-              (copied_spots (size_of table) (n * k.count) k.part.size k.part.spots.items h.spots));
-          cells =
-              (λ i. cells_from 0 (m.spots_are i) (m.size_is i))
-              ∙ copied_cells (size_of table) (n * k.count) k.part.size k.part.spots.items h.spots ∙ all_cells;
-          holds = m.holds_are ∙ h.holds ∙ sym array_holds;
-        })
+    array_kept x m =
+        times_kept table E t (n * k.count) k.part count_some h.spots
+        (copied_cells (size_of table) (n * k.count) k.part.size k.part.spots.items h.spots ∙ all_cells) (h.holds ∙ sym array_holds) x m
 
 -- what is kept of the element of an array
 pub element_kept : (table : Table) (E : Relation) (places : List ℕ) (built : List Repeated) (t element : TypeId) (n : ℕ) (part : Repeated) → shape_at table t ≡ Array element n

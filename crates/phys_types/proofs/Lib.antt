@@ -26,6 +26,7 @@ pub mod Turns
 pub mod Columns
 pub mod InCopies
 pub mod BeginsByPart
+pub mod Sole
 pub mod AddLemmas
 pub mod EachAlike
 pub mod Crossed

@@ -113,7 +113,7 @@ module _ (table : Table) (w : IsWellFormed table) where
             ∙ ap (list_any (holds_pointer table)) (sym (take_more ms i d l));
       }
 
-  complete_member : (t : TypeId) (tag : ℕ) → shape_at table t ≡ Struct tag → (m : TypeId) → Contains (members_at table t) m → IsComplete table m
+  pub complete_member : (t : TypeId) (tag : ℕ) → shape_at table t ≡ Struct tag → (m : TypeId) → Contains (members_at table t) m → IsComplete table m
   complete_member t tag e m c =
       let P : TypeShape → Type 0 = λ s. All (IsComplete table) (parts_of_shape s (members_at table t)) in
       All-contains (IsComplete table) (members_at table t) m (subst P e (w.each t).parts) c

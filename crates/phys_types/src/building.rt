@@ -1,7 +1,7 @@
 //! What is kept of the layouts of types, each from those of its parts.
 #![tactic(auto)]
 
-ghost use Rattle.std.specs.Prelude.{ℕ, ◌≡◌, ◌≢◌, ◌<◌, ◌≤◌, length, slice_index_or, IfOk, true, false, map, List, [], ◌∷◌};
+ghost use Rattle.std.specs.Prelude.{ℕ, ◌≡◌, ◌≢◌, ◌<◌, ◌≤◌, length, slice_index_or, IfOk, IfSome, true, false, map, List, [], ◌∷◌};
 ghost use Rattle.std.specs.List.{All, Contains, list_all, list_any, fold};
 ghost use Rattle.cc_base.specs.declared.number.TypeId.{TypeId};
 ghost use Rattle.c_types.specs.declared.shape.TypeShape.TheVariants.{Array};
@@ -279,6 +279,34 @@ fn layout_of(
     }
 }
 
+/// What is kept of the member that a struct consists of, where it has just one, of its own size.
+fn sole_member<'a>(
+    types: &Types,
+    places: &[usize],
+    built: &'a [Repeated],
+    t: TypeId,
+) -> Option<&'a Repeated>
+    requires formed { IsWellFormed types.now }
+    requires typed { IsType types.now t }
+    requires kept { ArePartsKept types.now places.now built.now t }
+    ensures { (E : Relation) → ArePartsShown types.now E places.now built.now t
+        → IfSome result (λ own. IsKeptOf types.now E t own.now) }
+{
+    match types.shape(t) {
+        TypeShape::Struct(_) => {
+            if types.fields(t) != 1 {
+                return None;
+            }
+            let field = types.field(t, 0);
+            if field.offset != 0 || types.size_of(field.ty) != types.size_of(t) {
+                return None;
+            }
+            Some(kept(places, built, field.ty))
+        }
+        _ => None,
+    }
+}
+
 /// What is kept of a type, from what is kept of its parts.
 pub(crate) fn kept_of(
     alloc: Global,
@@ -303,6 +331,9 @@ pub(crate) fn kept_of(
             kept_times(alloc, &part.part, times)
         }
         _ => {
+            if let Some(own) = sole_member(types, places, built, t) {
+                return kept_times(alloc, &own.part, own.count);
+            }
             let part = layout_of(alloc, types, numbers, places, built, t)?;
             Ok(Repeated { part, count: 1 })
         }

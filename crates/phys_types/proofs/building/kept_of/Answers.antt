@@ -2,7 +2,7 @@ use Rattle.std.proofs.Common.{refl, sym, ◌∙◌, arith}
 use Rattle.std.proofs.lemmas.Result.{IfOk-weaker}
 use Rattle.phys_types.specs.Numbers.{number_in, same_number}
 use Rattle.phys_types.specs.Shown.{IsKeptOf}
-use Rattle.phys_types.proofs.Kept.{kept_low, array_small, array_count, array_kept, once_kept, element_kept}
+use Rattle.phys_types.proofs.Kept.{kept_low, array_small, array_count, array_kept, once_kept, times_kept, element_kept}
 use Rattle.phys_types.proofs.building.kept_of.Goals as goal
 
 -- what is kept of the element
@@ -48,3 +48,19 @@ layout_of-requires-clause-other c = λ element n e. c.in_default.not-Array eleme
 pub returns-in_ok-part-in_default : goal.returns-in_ok-part-in_default
 returns-in_ok-part-in_default c =
     once_kept c.args.types.now (same_number (number_in c.args.numbers.now)) c.args.t (record { part = c.in_ok-part-in_default.part; count = 1 }) refl c.in_ok-part-in_default.ensures
+
+-- the member that the type consists of
+pub kept_times-requires-in-Some : goal.kept_times-requires-in-Some
+kept_times-requires-in-Some c =
+    let table = c.args.types.now in
+    let E = same_number (number_in c.args.numbers.now) in
+    let k = kept_low table E c.args.t c.requires.formed c.in-Some.own.now (c.in-Some.ensures E c.requires.shown) in
+    record { low = k.0; small = k.1 }
+
+pub returns-in-Some : goal.returns-in-Some
+returns-in-Some c =
+    let table = c.args.types.now in
+    let E = same_number (number_in c.args.numbers.now) in
+    let h : IsKeptOf table E c.args.t c.in-Some.own.now = c.in-Some.ensures E c.requires.shown in
+    IfOk-weaker c.kept_times-in-Some.result _ _
+    (λ x m. times_kept table E c.args.t c.in-Some.own.now.count c.in-Some.own.now.part h.some h.spots h.cells h.holds x m) c.kept_times-in-Some.ensures

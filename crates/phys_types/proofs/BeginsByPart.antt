@@ -30,6 +30,27 @@ module _ (number : TypeId → ℕ) where
       (moved_same at p q (first_true (same_spot number p q) _ h))
       (joined_begin at n ps qs xs ys (second_true (same_spot number p q) _ h) k)
 
+  joined_same : (at : ℕ) (ps qs xs ys : List Spot) → same_spots number ps qs ≡ true → same_spots number xs ys ≡ true
+      → same_spots number (map (shifted at) ps ++ xs) (map (shifted at) qs ++ ys) ≡ true
+  joined_same at [] [] xs ys h k = k
+  joined_same at [] (q ∷ qs) xs ys h k = absurd (true≢false (sym h))
+  joined_same at (p ∷ ps) [] xs ys h k = absurd (true≢false (sym h))
+  joined_same at (p ∷ ps) (q ∷ qs) xs ys h k =
+      both_true (same_spot number (shifted at p) (shifted at q)) _
+      (moved_same at p q (first_true (same_spot number p q) _ h))
+      (joined_same at ps qs xs ys (second_true (same_spot number p q) _ h) k)
+
+  copies_same : (n size at : ℕ) (ps qs : List Spot) → same_spots number ps qs ≡ true → same_spots number (copies n size at ps) (copies n size at qs) ≡ true
+  copies_same zero size at ps qs h = refl
+  copies_same (suc n) size at ps qs h = joined_same at ps qs _ _ h (copies_same n size (at + size) ps qs h)
+
+  pub same_by_part : (x y : Repeated) → x.part.size ≡ y.part.size → x.count ≡ y.count → same_spots number x.part.spots.items y.part.spots.items ≡ true
+      → (all_size x ≡ all_size y) × (same_spots number (all_spots x) (all_spots y) ≡ true)
+  same_by_part x y e f h = (
+    (λ i. f i * e i),
+    (λ i. same_spots number (copies (f i) (e i) 0 x.part.spots.items) (all_spots y)) ∙ copies_same y.count y.part.size 0 x.part.spots.items y.part.spots.items h,
+  )
+
   copies_start : (n size at from : ℕ) (ss : List Spot) → from ≤ at → start_from from (copies n size at ss) ≡ true
   copies_start zero size at from ss h = refl
   copies_start (suc n) size at from [] h = copies_start n size (at + size) from [] (omega arith)

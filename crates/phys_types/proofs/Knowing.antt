@@ -12,7 +12,7 @@ use Rattle.phys_types.specs.Views.{IsKnown}
 use Rattle.phys_types.proofs.Classes.{begins_right}
 use Rattle.phys_types.proofs.Viewing.{all_kept}
 
-neither : (a b : Bool) → (a || b) ≡ false → (a ≡ false) × (b ≡ false)
+pub neither : (a b : Bool) → (a || b) ≡ false → (a ≡ false) × (b ≡ false)
 neither false false k = (refl, refl)
 neither false true k = absurd (true≢false k)
 neither true b k = absurd (true≢false k)

@@ -34,6 +34,7 @@ pub mod Queue
 pub mod Tops
 pub mod AllPairsFound
 pub mod Knowing
+pub mod SameByPart
 pub mod MixedSpots
 pub mod Refined
 pub mod Turned

@@ -100,6 +100,17 @@ pub(crate) fn begins_by_part(numbers: &[usize], x: &Repeated, y: &Repeated) -> b
     same_spots(numbers, &x.part.spots, &y.part.spots)
 }
 
+/// Whether layouts of as many copies of the same part show by one copy that they are the same.
+pub(crate) fn same_by_part(numbers: &[usize], x: &Repeated, y: &Repeated) -> bool
+    ensures { IsTrue result → (all_size x.now ≡ all_size y.now) × IsTrue
+        (same_spots (number_in numbers.now) (all_spots x.now) (all_spots y.now)) }
+{
+    if x.part.size != y.part.size || x.count != y.count {
+        return false;
+    }
+    same_spots(numbers, &x.part.spots, &y.part.spots)
+}
+
 /// The spots up to the first that begins at `n` or later.
 pub(crate) fn spots_before(n: u64, spots: &[Spot]) -> &[Spot]
     ensures { result.now ≡ spots_before n spots.now }

@@ -15,10 +15,11 @@ ghost use Rattle.phys_types.specs.Shown.{IsKeptOf, IsLowKept, ArePartsKept, AreP
 ghost use Rattle.phys_types.specs.Rounds.{IsOrder, AreShown, IsRound, AreSettled, AreStable, first_place};
 
 use crate::building::kept_of;
-use crate::comparing::number_of;
+use crate::comparing::{number_of, same_by_part};
 use crate::keeping::Repeated;
 use crate::lending::lend;
 use crate::makeup::looks_alike;
+use crate::phys::is_one_function;
 use crate::refining::refine;
 use c_types::Types;
 use cc_base::{NoMemory, TypeId};
@@ -57,6 +58,9 @@ fn look_alike(
     ensures { IfOk result (λ alike. alike ≡ made_alike types.now
         (same_number (number_in numbers.now)) t u) }
 {
+    if !is_one_function(types, t, u) && same_by_part(numbers, x, y) {
+        return Ok(true);
+    }
     let lent = lend(alloc, x)?;
     let other = lend(alloc, y)?;
     Ok(looks_alike(types, numbers, t, lent.layout(), u, other.layout()))

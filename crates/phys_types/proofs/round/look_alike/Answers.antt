@@ -2,6 +2,7 @@ use Rattle.std.proofs.Common.{sym, subst}
 use Rattle.phys_types.specs.Numbers.{number_in, same_number}
 use Rattle.phys_types.specs.Shown.{IsLayoutOf}
 use Rattle.phys_types.proofs.Kept.{kept_low}
+use Rattle.phys_types.proofs.SameByPart.{same_seen}
 use Rattle.phys_types.proofs.round.look_alike.Goals as goal
 
 pub lend-requires : goal.lend-requires
@@ -9,6 +10,13 @@ lend-requires c = kept_low c.args.types.now (same_number (number_in c.args.numbe
 
 pub lend-requires-2 : goal.lend-requires-2
 lend-requires-2 c = kept_low c.args.types.now (same_number (number_in c.args.numbers.now)) c.args.u c.requires.formed c.args.y.now c.requires.second_kept
+
+-- one copy of each has shown it
+pub returns-then-same_by_part : goal.returns-then-same_by_part
+returns-then-same_by_part c =
+    let table = c.args.types.now in
+    same_seen table c.requires.formed (number_in c.args.numbers.now) c.args.t c.args.u c.args.x.now c.args.y.now c.requires.first_kept c.requires.second_kept
+    c.is_one_function.result c.is_one_function.ensures c.if-not-is_one_function.true (c.same_by_part.ensures c.if-same_by_part.true)
 
 pub returns : goal.returns
 returns c =

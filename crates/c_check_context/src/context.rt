@@ -7,7 +7,7 @@ ghost use Rattle.c_tree.specs.TypedViews.{typed_expr_view, typed_specifiers_view
 ghost use Rattle.c_typing.specs.Assignments.{count_global};
 ghost use Rattle.c_typing.specs.Cells.{count_cells};
 ghost use Rattle.c_typing.specs.Checking.{checked, checked_value, checked_constant};
-ghost use Rattle.c_check_expr.specs.CheckingViews.{constant_view};
+ghost use Rattle.c_check_walk.specs.CheckingViews.{constant_view};
 ghost use Rattle.c_typing.specs.Judging.{known};
 ghost use Rattle.c_typing.specs.Walks.{judge_specifiers_of, judge_declarator};
 ghost use Rattle.c_tree.specs.TypedParts.{specified_type};

@@ -8,7 +8,7 @@ use Rattle.c_typing.specs.Judging.{State, Outcome, Answers}
 use Rattle.c_typing_given.specs.Given.{IsGivenAs, IsReached}
 use Rattle.c_typing_unique.specs.Points.{Point}
 use Rattle.c_check_expr.specs.Accepted.{IsTaken}
-use Rattle.c_check_expr.proofs.OutcomeLaws.{gives-value, gives-state, never-stops}
+use Rattle.c_check_walk.proofs.OutcomeLaws.{gives-value, gives-state, never-stops}
 
 abbrev pub is_wanting : Fault → Bool
 is_wanting NoMemory = true

@@ -17,24 +17,26 @@ use Rattle.c_tree.specs.Tree.{Parameters}
 use Rattle.c_tree.specs.TypedTree as typed
 use Rattle.c_tree.specs.Places.{nowhere}
 use Rattle.c_tree.specs.TypedParts.{specified_type}
-use Rattle.c_tree.specs.TypedTree.{TypedForm, TypedParts}
+use Rattle.c_tree.specs.TypedTree.{TypedForm, TypedParameters, TypedParts}
 use Rattle.c_tree.specs.TypedViews.{typed_specifiers_view}
 use Rattle.c_tree.specs.declared.typed_expr.TypedSpecifiers.{out-TypedSpecifiers, roll-out-TypedSpecifiers, TypedSpecifiers as Specifiers}
 use Rattle.c_types.specs.Table.{shape_at}
 use Rattle.c_tree.specs.Views.{added, core_view, declarator_view, part_view, part_layer, core_layer, enumerator_layer, expr_layer, specifier_layer, declarator_layer, members_layer, parameter_layer, specifiers_layer, type_name_layer}
 use Rattle.c_typing.specs.declared.naming.Naming.{Naming}
-use Rattle.c_typing.specs.Declaring.{NotDerived, declarator_name, derived_by, form_makes, home_as, is_function_by, stars_with_nodes, unless_function}
-use Rattle.c_typing.specs.Refusals.{name_place}
-use Rattle.c_typing.specs.Judging.{State, Judging, Gives, Stops, next, pure}
-use Rattle.c_typing.specs.Scopes.{Level, empty_level}
-use Rattle.c_typing.specs.Walks.{judge_declarator, judge_declarator_at, judge_form, judge_parts, judge_prototype, outermost_of}
+use Rattle.c_typing.specs.Declaring.{NotDerived, declarator_name, derived_by, entered, form_makes, home_as, is_function_by, stars_with_nodes, unless_function}
+use Rattle.c_typing.specs.Refusals.{is_void_alone, name_place}
+use Rattle.c_typing.specs.Judging.{State, Outcome, Judging, Gives, Stops, by_known, next, pure}
+use Rattle.c_typing.specs.Scopes.{Level, empty_level, innermost}
+use Rattle.c_typing.specs.Walks.{judge_declarator, judge_declarator_at, judge_form, judge_parameters, judge_parts, judge_prototype, outermost_of}
 use Rattle.c_typing_laws.proofs.Outcomes.{gives-state}
 use Rattle.c_unit_typing.specs.ParameterScopes.{level_given, level_of, parameters_written, scope_of_core, scope_of_declarator, scope_of_list}
 use Rattle.c_unit_typing.specs.Units.{unless_pointer}
-use Rattle.c_check_expr.proofs.PartLaws.{function_judged}
-use Rattle.c_check_expr.proofs.PartsSeen.{declarator_seen}
-use Rattle.c_check_expr.proofs.SeriesLaws.{stays_behind}
-use Rattle.c_check_expr.proofs.StayLaws.{no_parts, parts-stay}
+use Rattle.c_check_walk.proofs.PartLaws.{function_judged}
+use Rattle.c_check_walk.proofs.PartsSeen.{declarator_seen}
+use Rattle.c_check_walk.proofs.SeriesLaws.{stays_behind}
+use Rattle.c_check_walk.proofs.StayLaws.{no_parts, parts-stay}
+use Rattle.c_check_walk.proofs.OutcomeLaws.{next-next}
+use Rattle.c_check_walk.specs.Ending.{EndsIn}
 use Rattle.c_check_expr.specs.Leaving.{AreLeaving, Tells, is_bare}
 
 -- where nothing follows
@@ -68,6 +70,18 @@ unfolding scope_of_core
 nested-tells which at paren d bare level s r t = record { follows = t.follows; nothing = t.nothing; leaves = t.leaves }
 
 -- Parts
+
+-- the scope in which parameters end is that of their list
+ends-given : (level : Level) (o : Outcome TypedParameters) → EndsIn level o → level_given (next o (λ list. by_known (λ s. pure (innermost s.seen.scopes.levels)))) ≡ level
+ends-given level (Gives list s) h = h
+ends-given level (Stops fault s) h = absurd h
+
+pub list_leaves : (parameters : Parameters) (level : Level) (s : State)
+    → EndsIn level (next (entered s) (λ _. judge_parameters (is_void_alone parameters) parameters)) → level_given (scope_of_list (Some parameters) s) ≡ level
+unfolding scope_of_list
+list_leaves parameters level s h =
+    ap level_given (sym (next-next (entered s) (λ _. judge_parameters (is_void_alone parameters) parameters) (λ list. by_known (λ t. pure (innermost t.seen.scopes.levels)))))
+    ∙ ends-given level _ h
 
 pub no-part-leaves : (s : State) → AreLeaving [] empty_level s
 unfolding scope_of_list

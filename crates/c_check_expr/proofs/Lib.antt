@@ -1,16 +1,5 @@
-pub mod SeriesLaws
-pub mod StayLaws
-pub mod OutcomeLaws
-pub mod NameLaws
-pub mod StarLaws
-pub mod PartLaws
-pub mod MemberLaws
-pub mod SpecifiedLaws
-pub mod PartsSeen
-pub mod ExprLaws
 pub mod AcceptedLaws
 pub mod RoomLaws
 pub mod GivenLaws
 pub mod LimitFacts
 pub mod LeavingLaws
-pub mod NestLaws

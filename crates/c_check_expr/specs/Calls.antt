@@ -28,7 +28,7 @@ use Rattle.c_typing_laws.specs.Judged.{AreSpecifiersBy, BecomesBy, DeclaratorFai
 use Rattle.c_typing_unique.specs.Points.{IsRead, IsReadAs, IsReadPlace, Point}
 use Rattle.c_unit_typing.specs.Holding.{declarator_holds, expr_holds, specifiers_holds}
 use Rattle.c_check_expr.specs.Accepted.{CanBeGiven, IsDeclaratorRead, IsTaken}
-use Rattle.c_check_expr.specs.CheckingViews.{constant_view}
+use Rattle.c_check_walk.specs.CheckingViews.{constant_view}
 
 -- What breaks a rule is refused for it: `Fails` says which faults a table justifies.
 abbrev pub RefusesForCause : {B : Type 0} → (Table → Fault → Type 0) → State → Result B Fault → State → Type 0

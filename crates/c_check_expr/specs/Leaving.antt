@@ -1,5 +1,5 @@
 -- What the list of parameters nearest to a declarator's name leaves in its scope, as far as a part of the declarator tells it.
-use Rattle.std.specs.Prelude.{◌≡◌, Bool, true, false, List, [], ◌∷◌, Option, None, map}
+use Rattle.std.specs.Prelude.{◌≡◌, Bool, true, false, List, [], Option, None, map}
 use Rattle.c_tree.specs.Tree.{Parameters, NoPart}
 use Rattle.c_tree.specs.Views.{added, part_view}
 use Rattle.c_tree.specs.declared.leaf.Star.{Star}

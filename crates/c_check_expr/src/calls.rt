@@ -19,10 +19,12 @@ ghost use Rattle.c_unit_typing.specs.ParameterScopes.{level_of};
 ghost use Rattle.c_unit_typing.specs.Holding.{declarator_holds, expr_holds, specifiers_holds};
 ghost use Rattle.c_check_expr.specs.Calls.{AcceptsConstant, AcceptsConverted, AcceptsCopied, AcceptsDeclarator, AcceptsSpecifiers, AcceptsValue, GivesDeclarator, RefusesDeclaratorForCause, RefusesForCause};
 ghost use Rattle.c_check_expr.specs.Limited.{IsWithin};
-ghost use Rattle.c_check_expr.specs.CheckingViews.{constant_view};
+ghost use Rattle.c_check_walk.specs.CheckingViews.{constant_view};
 
-use crate::checking::{checked, checked_constant, checked_for, declarator_behind, specifiers_by};
 use crate::definitions::definition_behind;
+use c_check_walk::checking::{
+    checked, checked_constant, checked_for, declarator_behind, specifiers_by,
+};
 use c_tree::{Declarator, Expr, Specifiers, TypedDeclarator, TypedExpr, TypedSpecifiers};
 use c_types::Types;
 use c_typing::level::Level;

@@ -1,34 +1,30 @@
 //! The declarator of a function definition: what its list of parameters declares is seen in the body (C99 6.2.1).
 #![tactic(auto)]
 
-ghost use Rattle.std.specs.Prelude.{◌≡◌, ◌&&◌, IfOk, None, Option, map, if◌then◌else◌, suc};
-ghost use Rattle.c_tree.specs.Depth.{parameters_height, parts_height};
+ghost use Rattle.std.specs.Prelude.{◌≡◌, ◌&&◌, IfOk, None, Option, map, if◌then◌else◌};
 ghost use Rattle.c_tree.specs.Tree.{NoPart, AndFunction, NoParameter, Parts, Parameters};
 ghost use Rattle.c_tree.specs.TypedParts.{home_of, specified_type, home_node};
 ghost use Rattle.c_tree.specs.TypedTree.{TypedParts, NoPart as no_typed_part};
 ghost use Rattle.c_tree.specs.Views.{added, core_view, declarator_view, parameter_view, part_view};
 ghost use Rattle.c_tree.specs.TypedViews.{typed_core_view, typed_declarator_view, typed_form_view, typed_part_view, typed_specifiers_view};
 ghost use Rattle.c_check_expr.specs.Leaving.{AreLeaving, Tells, is_bare};
-ghost use Rattle.c_check_expr.specs.Nests.{Nests};
 ghost use Rattle.c_typing.specs.Growing.{Grows};
 ghost use Rattle.c_typing.specs.Judging.{Answers, Gives, State, known};
 ghost use Rattle.c_typing.specs.Walks as walks;
 ghost use Rattle.c_unit_typing.specs.ParameterScopes.{level_given, level_of, parameters_written, scope_of_core, scope_of_declarator, scope_of_list};
 
-use crate::checking::{NOWHERE, naming_of, with_type};
-use crate::declarators::{home_as, stars_with_nodes};
-use crate::walk::{judge_expr, judge_form, judge_specifiers};
-use crate::walker::Walker;
 use c_check_declarators::places::{declarator_name, name_place};
+use c_check_walk::checking::{NOWHERE, naming_of, with_type};
+use c_check_walk::declarators::{home_as, stars_with_nodes};
+use c_check_walk::walk::{judge_part, judge_parts_behind, judge_prototype};
 use c_tree::{
-    Boxed, Core, Declarator, Expr, Items, Parameter, Part, Specifiers, Star, TypedCore,
-    TypedDeclarator, TypedForm, TypedPart, TypedSpecifiers,
+    Boxed, Core, Declarator, Items, Parameter, Part, Star, TypedCore, TypedDeclarator, TypedForm,
+    TypedPart, TypedSpecifiers,
 };
 use c_types::Types;
 use c_typing::copies::copied_name;
 use c_typing::level::Level;
 use c_typing::naming::Naming;
-use c_typing::operand::Operand;
 use c_typing::scope::Scope;
 use cc_base::{Fault, Place};
 
@@ -58,101 +54,79 @@ fn nearest(bare: bool, here: Level, rest: Level) -> Level
     if bare { here } else { rest }
 }
 
-impl<
-    E: Fn(&mut Scope, &mut Types, bool, &Expr) -> Result<Operand, Fault>,
-    S: Fn(&mut Scope, &mut Types, &Specifiers) -> Result<TypedSpecifiers, Fault>,
-    D: Fn(&mut Scope, &mut Types, Naming, Place, &Declarator) -> Result<TypedForm, Fault>,
-> Walker<E, S, D> {
-    /// The list of parameters that stands nearest to the name, with the scope that it leaves.
-    #[tactic(auto, using(c_tree::proofs::TypedViewLaws::typed_views, crate::proofs::LeavingLaws::function_nearest))]
-    fn function_left(
-        &self,
-        scope: &mut Scope,
-        types: &mut Types,
-        at: Place,
-        paren: Place,
-        parameters: &[Parameter],
-    ) -> Result<(TypedPart, Level), Fault>
-        requires nests { Nests (suc (parameters_height (added NoParameter
-            (map parameter_view parameters.now)))) (E.pre self.now.judge_expr)
-            (E.post self.now.judge_expr) (S.pre self.now.judge_specifiers)
-            (S.post self.now.judge_specifiers) (D.pre self.now.judge_form)
-            (D.post self.now.judge_form) }
-        ensures judged { Answers (λ made. typed_part_view made.0 no_typed_part)
-            (walks.judge_parts at (AndFunction NoPart paren
-            (added NoParameter (map parameter_view parameters.now))) (known types.old scope.old))
-            result (known types.new scope.new) }
-        ensures left { IfOk result (λ made. (outer : Option Parameters)
-            → level_given (scope_of_list (parameters_written
-            (AndFunction NoPart paren (added NoParameter (map parameter_view parameters.now)))
-            outer) (known types.old scope.old)) ≡ made.1) }
-        ensures grows { Grows (known types.old scope.old) (known types.new scope.new) }
-    {
-        let (list, level) = self.prototype_left(scope, types, at, parameters)?;
-        Ok((TypedPart::Function(paren, list), level))
-    }
+/// The list of parameters that stands nearest to the name, with the scope that it leaves.
+#[tactic(auto, using(c_tree::proofs::TypedViewLaws::typed_views, crate::proofs::LeavingLaws::function_nearest, crate::proofs::LeavingLaws::list_leaves))]
+fn function_left(
+    scope: &mut Scope,
+    types: &mut Types,
+    at: Place,
+    paren: Place,
+    parameters: &[Parameter],
+) -> Result<(TypedPart, Level), Fault>
+    ensures judged { Answers (λ made. typed_part_view made.0 no_typed_part)
+        (walks.judge_parts at (AndFunction NoPart paren
+        (added NoParameter (map parameter_view parameters.now))) (known types.old scope.old))
+        result (known types.new scope.new) }
+    ensures left { IfOk result (λ made. (outer : Option Parameters)
+        → level_given (scope_of_list (parameters_written
+        (AndFunction NoPart paren (added NoParameter (map parameter_view parameters.now)))
+        outer) (known types.old scope.old)) ≡ made.1) }
+    ensures grows { Grows (known types.old scope.old) (known types.new scope.new) }
+{
+    let (list, level) = judge_prototype(scope, types, at, parameters)?;
+    Ok((TypedPart::Function(paren, list), level))
+}
 
-    /// The part that stands nearest to the name.
-    #[tactic(auto, using(crate::proofs::NestLaws::nests, c_tree::proofs::ViewLaws::expr_views, c_tree::proofs::TypedViewLaws::typed_views, crate::proofs::StayLaws::none_judged), unfolding(c_unit_typing::specs::ParameterScopes::scope_of_list))]
-    fn nearest_part(
-        &self,
-        scope: &mut Scope,
-        types: &mut Types,
-        at: Place,
-        part: &Part,
-    ) -> Result<(TypedPart, Level), Fault>
-        requires nests { Nests (suc (parts_height (part_view part.now NoPart)))
-            (E.pre self.now.judge_expr) (E.post self.now.judge_expr)
-            (S.pre self.now.judge_specifiers) (S.post self.now.judge_specifiers)
-            (D.pre self.now.judge_form) (D.post self.now.judge_form) }
-        ensures judged { Answers (λ made. typed_part_view made.0 no_typed_part)
-            (walks.judge_parts at (part_view part.now NoPart) (known types.old scope.old)) result
-            (known types.new scope.new) }
-        ensures left { IfOk result (λ made. (outer : Option Parameters)
-            → level_given (scope_of_list (parameters_written (part_view part.now NoPart) outer)
-            (known types.old scope.old)) ≡ made.1) }
-        ensures grows { Grows (known types.old scope.old) (known types.new scope.new) }
-    {
-        match part {
-            Part::Function(paren, parameters) => {
-                self.function_left(scope, types, at, *paren, parameters.as_slice())
-            }
-            part => {
-                let one = self.part(scope, types, at, part)?;
-                Ok((one, Level::new(scope.alloc())))
-            }
+/// The part that stands nearest to the name.
+#[tactic(auto, using(c_tree::proofs::ViewLaws::expr_views, c_tree::proofs::TypedViewLaws::typed_views, c_check_walk::proofs::StayLaws::none_judged), unfolding(c_unit_typing::specs::ParameterScopes::scope_of_list))]
+fn nearest_part(
+    scope: &mut Scope,
+    types: &mut Types,
+    at: Place,
+    part: &Part,
+) -> Result<(TypedPart, Level), Fault>
+    ensures judged { Answers (λ made. typed_part_view made.0 no_typed_part)
+        (walks.judge_parts at (part_view part.now NoPart) (known types.old scope.old)) result
+        (known types.new scope.new) }
+    ensures left { IfOk result (λ made. (outer : Option Parameters)
+        → level_given (scope_of_list (parameters_written (part_view part.now NoPart) outer)
+        (known types.old scope.old)) ≡ made.1) }
+    ensures grows { Grows (known types.old scope.old) (known types.new scope.new) }
+{
+    match part {
+        Part::Function(paren, parameters) => {
+            function_left(scope, types, at, *paren, parameters.as_slice())
+        }
+        part => {
+            let one = judge_part(scope, types, at, part)?;
+            Ok((one, Level::new(scope.alloc())))
         }
     }
+}
 
-    /// Parts, with what the nearest to the name leaves.
-    #[tactic(auto, using(c_tree::proofs::PushLaws::pushes, crate::proofs::StayLaws::none_judged, crate::proofs::LeavingLaws::leaving))]
-    fn nearest_parts(
-        &self,
-        scope: &mut Scope,
-        types: &mut Types,
-        at: Place,
-        parts: &[Part],
-    ) -> Result<(Items<TypedPart>, Level), Fault>
-        requires nests { Nests (suc (parts_height (added NoPart (map part_view parts.now))))
-            (E.pre self.now.judge_expr) (E.post self.now.judge_expr)
-            (S.pre self.now.judge_specifiers) (S.post self.now.judge_specifiers)
-            (D.pre self.now.judge_form) (D.post self.now.judge_form) }
-        ensures judged { Answers (λ made. added no_typed_part (map typed_part_view made.0))
-            (walks.judge_parts at (added NoPart (map part_view parts.now))
-            (known types.old scope.old)) result (known types.new scope.new) }
-        ensures left { IfOk result (λ made. AreLeaving parts.now made.1
-            (known types.old scope.old)) }
-        ensures grows { Grows (known types.old scope.old) (known types.new scope.new) }
-    {
-        let Some((first, rest)) = parts.split_first() else {
-            return Ok((Items::new(scope.alloc()), Level::new(scope.alloc())));
-        };
-        let (one, level) = self.nearest_part(scope, types, at, first)?;
-        let mut found = Items::new(scope.alloc());
-        found.push(one)?;
-        let parts = self.parts_behind(scope, types, at, found, rest)?;
-        Ok((parts, level))
-    }
+/// Parts, with what the nearest to the name leaves.
+#[tactic(auto, using(c_tree::proofs::PushLaws::pushes, c_check_walk::proofs::StayLaws::none_judged, crate::proofs::LeavingLaws::leaving))]
+fn nearest_parts(
+    scope: &mut Scope,
+    types: &mut Types,
+    at: Place,
+    parts: &[Part],
+) -> Result<(Items<TypedPart>, Level), Fault>
+    ensures judged { Answers (λ made. added no_typed_part (map typed_part_view made.0))
+        (walks.judge_parts at (added NoPart (map part_view parts.now))
+        (known types.old scope.old)) result (known types.new scope.new) }
+    ensures left { IfOk result (λ made. AreLeaving parts.now made.1
+        (known types.old scope.old)) }
+    ensures grows { Grows (known types.old scope.old) (known types.new scope.new) }
+{
+    let Some((first, rest)) = parts.split_first() else {
+        return Ok((Items::new(scope.alloc()), Level::new(scope.alloc())));
+    };
+    let (one, level) = nearest_part(scope, types, at, first)?;
+    let mut found = Items::new(scope.alloc());
+    found.push(one)?;
+    let parts = judge_parts_behind(scope, types, at, found, rest)?;
+    Ok((parts, level))
 }
 
 /// What the core of a declarator gives, and what it leaves.
@@ -215,14 +189,9 @@ fn judge_definition(
         (known types.new scope.new)) }
     ensures grows { Grows (known types.old scope.old) (known types.new scope.new) }
 {
-    let walker = Walker {
-        judge_expr,
-        judge_specifiers,
-        judge_form,
-    };
     let stars = stars_with_nodes(scope, at, d.stars.as_slice())?;
     let inner = core_left(scope, types, which, at, &d.core)?;
-    let (parts, level) = walker.nearest_parts(scope, types, at, d.parts.as_slice())?;
+    let (parts, level) = nearest_parts(scope, types, at, d.parts.as_slice())?;
     Ok(Left {
         one: TypedForm {
             stars,

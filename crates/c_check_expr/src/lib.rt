@@ -1,18 +1,8 @@
-//! The typing of expressions, specifiers and declarators (C99 6.5, 6.7).
+//! What a unit asks of its expressions, specifiers and declarators, and what each answer means (C99 6.5, 6.7).
 #![tactic(auto)]
 
 mod calls;
-mod checking;
-mod declarators;
 mod definitions;
-mod enumerators;
-mod expression;
-mod members;
-mod parameters;
-mod specifiers;
-mod type_names;
-mod walk;
-mod walker;
 
 pub use c_check_declarators::{homes, places};
 pub use c_typing::level::Level;

@@ -10,7 +10,7 @@ use Rattle.c_typing_laws.proofs.JudgedWhole.{constant-judged}
 use Rattle.c_typing_laws.proofs.NumberedWhole.{constant-numbers}
 use Rattle.c_typing_laws.proofs.RefusedWhole.{constant-refuses}
 use Rattle.c_typing.specs.Checking.{checked_constant}
-use Rattle.c_check_expr.specs.CheckingViews.{constant_view}
+use Rattle.c_check_walk.specs.CheckingViews.{constant_view}
 use Rattle.c_check_expr.proofs.GivenLaws.{number-given}
 use Rattle.c_check_expr.proofs.AcceptedLaws.{accepted}
 use Rattle.c_unit_typing.specs.Holding.{expr_holds}

@@ -1,4 +1,0 @@
-use Rattle.c_check_expr.proofs.walker.Walker.declared.Goals as goal
-
-pub form-requires : goal.form-requires
-form-requires g c = record { nests = rw c.in-Some.is at c.requires.nests }

@@ -1,4 +1,0 @@
-use Rattle.c_check_expr.proofs.walker.Walker.postfix_layer.Goals as goal
-
-pub returns-clause-grows : goal.returns-clause-grows
-returns-clause-grows g c = λ any first h. c.step_after.ensures.grows any first (c.in_ok-x.ensures.grows any first h)

@@ -1,4 +1,0 @@
-use Rattle.c_check_expr.proofs.walker.Walker.prefix_layer.Goals as goal
-
-pub returns-clause-grows : goal.returns-clause-grows
-returns-clause-grows g c = λ any first h. c.prefix.ensures.grows any first (c.in_ok-x.ensures.grows any first h)

@@ -1,5 +1,0 @@
-use Rattle.c_check_expr.proofs.PartsSeen.{specifiers_seen}
-use Rattle.c_check_expr.proofs.walker.Walker.specifier_list.Goals as goal
-
-pub listed-requires : goal.listed-requires
-listed-requires g c = record { nests = rw c.as_slice.ensures (rw (specifiers_seen c.args.specifiers.now) at c.requires.nests) }

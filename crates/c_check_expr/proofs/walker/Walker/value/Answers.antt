@@ -1,4 +1,0 @@
-use Rattle.c_check_expr.proofs.walker.Walker.value.Goals as goal
-
-pub returns-clause-grows : goal.returns-clause-grows
-returns-clause-grows g c = λ any first h. c.value.ensures.grows any first (c.expr.ensures.grows any first h)

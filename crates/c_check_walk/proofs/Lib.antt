@@ -1,0 +1,11 @@
+pub mod SeriesLaws
+pub mod StayLaws
+pub mod OutcomeLaws
+pub mod NameLaws
+pub mod StarLaws
+pub mod PartLaws
+pub mod MemberLaws
+pub mod SpecifiedLaws
+pub mod PartsSeen
+pub mod ExprLaws
+pub mod NestLaws

@@ -1,0 +1,5 @@
+pub mod Nests
+pub mod CheckingViews
+pub mod NamedViews
+pub mod Listed
+pub mod Ending

@@ -98,7 +98,12 @@ pub(crate) fn act_words(operation: &Operation, frame: &mut [u64]) -> Row
     match *operation {
         Operation::Const(v, n) => frame[v as usize] = n,
         Operation::Copy(v, a) => frame[v as usize] = frame[a as usize],
-        Operation::Ext(v, a, form) => frame[v as usize] = narrow(frame[a as usize], form),
+        Operation::ExtS8(v, a) => frame[v as usize] = narrow(frame[a as usize], Narrow::S8),
+        Operation::ExtS16(v, a) => frame[v as usize] = narrow(frame[a as usize], Narrow::S16),
+        Operation::ExtS32(v, a) => frame[v as usize] = narrow(frame[a as usize], Narrow::S32),
+        Operation::ExtU8(v, a) => frame[v as usize] = narrow(frame[a as usize], Narrow::U8),
+        Operation::ExtU16(v, a) => frame[v as usize] = narrow(frame[a as usize], Narrow::U16),
+        Operation::ExtU32(v, a) => frame[v as usize] = narrow(frame[a as usize], Narrow::U32),
         Operation::Add(v, a, b) => frame[v as usize] = sum(frame[a as usize], frame[b as usize]),
         Operation::Sub(v, a, b) => frame[v as usize] = difference(
             frame[a as usize],

@@ -76,10 +76,10 @@ ends-given : (level : Level) (o : Outcome TypedParameters) → EndsIn level o �
 ends-given level (Gives list s) h = h
 ends-given level (Stops fault s) h = absurd h
 
-pub list_leaves : (parameters : Parameters) (level : Level) (s : State)
+pub list-leaves : (parameters : Parameters) (level : Level) (s : State)
     → EndsIn level (next (entered s) (λ _. judge_parameters (is_void_alone parameters) parameters)) → level_given (scope_of_list (Some parameters) s) ≡ level
 unfolding scope_of_list
-list_leaves parameters level s h =
+list-leaves parameters level s h =
     ap level_given (sym (next-next (entered s) (λ _. judge_parameters (is_void_alone parameters) parameters) (λ list. by_known (λ t. pure (innermost t.seen.scopes.levels)))))
     ∙ ends-given level _ h
 

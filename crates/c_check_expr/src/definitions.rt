@@ -55,7 +55,7 @@ fn nearest(bare: bool, here: Level, rest: Level) -> Level
 }
 
 /// The list of parameters that stands nearest to the name, with the scope that it leaves.
-#[tactic(auto, using(c_tree::proofs::TypedViewLaws::typed_views, crate::proofs::LeavingLaws::function_nearest, crate::proofs::LeavingLaws::list_leaves))]
+#[tactic(auto, using(c_tree::proofs::TypedViewLaws::typed_views, crate::proofs::LeavingLaws::function_nearest))]
 fn function_left(
     scope: &mut Scope,
     types: &mut Types,

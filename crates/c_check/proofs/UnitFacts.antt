@@ -111,7 +111,7 @@ is-accepted u (Ok t) whole r g h = ap (λ (o : UnitOutcome TypedTranslationUnit)
 is-accepted u (Err f) whole r g h = memory_alone f (λ n. none-some f (ap fault_of (sym g) ∙ h n))
 
 pub accepts : (u : tree.TranslationUnit) (result : Result Typed Fault) → IsAnswered u result → HasFewTokens u → (T : Table) (whole : TypedTranslationUnit)
-    → IsBasic T → IsWellTyped T whole → IsWithinLimits T whole → erased_unit whole ≡ u → IsAccepted whole result
-accepts u result h few T whole basic typed limits e =
-    let given = whole-given T whole basic typed limits (subst HasFewTokens (sym e) few) in
+    → IsWellTyped T whole → IsWithinLimits T whole → erased_unit whole ≡ u → IsAccepted whole result
+accepts u result h few T whole typed limits e =
+    let given = whole-given T whole typed.basic typed limits (subst HasFewTokens (sym e) few) in
     is-accepted u result whole given.0 (ap judged_unit (sym e) ∙ given.1) h

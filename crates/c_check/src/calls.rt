@@ -14,7 +14,6 @@ ghost use Rattle.c_tree.specs.TypedStatementViews.{typed_unit_view};
 ghost use Rattle.c_tree.specs.TypedTree.{TypedTranslationUnit};
 ghost use Rattle.c_check.specs.Judged.{IsAccepted, IsAnswered};
 ghost use Rattle.c_printed.specs.Printing.{AreInOrder, HasPrinted};
-ghost use Rattle.c_typing.specs.Settled.{IsBasic};
 ghost use Rattle.c_unit_given.specs.Tokens.{HasFewTokens};
 ghost use Rattle.c_unit_typing.specs.DefinitionJudging.{before_unit};
 ghost use Rattle.c_unit_typing.specs.Limits.{IsWithinLimits};
@@ -56,11 +55,9 @@ pub fn check(alloc: Global, unit: &Unit) -> Result<Typed, Fault>
     ensures ordered { IfOk result (λ t. AreInOrder t.printed) }
     ensures limited { IfOk result (λ t. IsWithinLimits t.types (typed_unit_view t.unit)) }
     ensures low { IfOk result (λ t. unit_height (erased_unit (typed_unit_view t.unit)) ≤ 256) }
-    ensures basic { IfOk result (λ t. IsBasic t.types) }
 
     // A unit of few tokens that is well typed over some table, and within its limits, is answered with that very tree.
     ensures accepts { HasFewTokens (unit_view unit.now) → (T : Table) (whole : TypedTranslationUnit)
-        → IsBasic T
         → IsWellTyped T whole → IsWithinLimits T whole → erased_unit whole ≡ unit_view unit.now
         → IsAccepted whole result }
 

@@ -19,7 +19,6 @@ use Rattle.c_tree.specs.TypedTree.{TypedTranslationUnit}
 use Rattle.c_tree.specs.declared.typed_unit.Typed.{Typed}
 use Rattle.c_expr_parse.specs.Calls.{IsFault}
 use Rattle.c_parser.specs.Answers.{SpellsUnit, UnitAnswered}
-use Rattle.c_typing.specs.Settled.{IsBasic}
 use Rattle.c_unit_given.specs.Tokens.{HasFewTokens}
 use Rattle.c_unit_typing.specs.DefinitionJudging.{before_unit}
 use Rattle.c_unit_typing.specs.Limits.{IsWithinLimits}
@@ -75,7 +74,7 @@ read_so text tokens r P one accepts unit is =
     accepts unit (subst (λ l. SpellsUnit Supported unit (map symbol_of l)) (sym (one is.tokens is.cut)) is.spells) is.low
 
 pub given_so : (text : List ℕ) (unit : TranslationUnit) (r : Result Typed Fault) → length text ≤ 1048576
-    → (HasFewTokens unit → (T : Table) (whole : TypedTranslationUnit) → IsBasic T → IsWellTyped T whole → IsWithinLimits T whole → erased_unit whole ≡ unit → IsAccepted whole r)
+    → (HasFewTokens unit → (T : Table) (whole : TypedTranslationUnit) → IsWellTyped T whole → IsWithinLimits T whole → erased_unit whole ≡ unit → IsAccepted whole r)
     → (T : Table) (whole : TypedTranslationUnit) → IsTypedText text T whole → unit ≡ erased_unit whole → IsAccepted whole r
 given_so text unit r short accepts T whole is same =
-    accepts (subst HasFewTokens (sym same) (few text (erased_unit whole) short is.unit)) T whole is.basic is.typed is.limited (sym same)
+    accepts (subst HasFewTokens (sym same) (few text (erased_unit whole) short is.unit)) T whole is.typed is.limited (sym same)

@@ -9,7 +9,6 @@ use Rattle.c_tree.specs.Erasure.{erased_unit}
 use Rattle.c_tree.specs.Symbols.{symbol_of}
 use Rattle.c_tree.specs.Tree.{TranslationUnit}
 use Rattle.c_tree.specs.TypedTree.{TypedTranslationUnit}
-use Rattle.c_typing.specs.Settled.{IsBasic}
 use Rattle.c_parser.specs.Answers.{SpellsUnit}
 use Rattle.c_unit_typing.specs.Limits.{IsWithinLimits}
 use Rattle.c_unit_typing.specs.WellTyped.{IsWellTyped}
@@ -24,6 +23,5 @@ pub record IsUnitOf (text : List ℕ) (unit : TranslationUnit) : Type 0 where
 -- the text is in the grammar, and this typed unit of it is well typed over the table and within the limits
 pub record IsTypedText (text : List ℕ) (T : Table) (whole : TypedTranslationUnit) : Type 0 where
   pub unit : IsUnitOf text (erased_unit whole)
-  pub basic : IsBasic T
   pub typed : IsWellTyped T whole
   pub limited : IsWithinLimits T whole

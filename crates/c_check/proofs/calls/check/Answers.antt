@@ -10,8 +10,7 @@ use Rattle.c_printed.specs.Printing.{AreInOrder, HasPrinted}
 use Rattle.c_unit_typing.specs.Limits.{IsWithinLimits}
 use Rattle.c_ready.specs.Ready.{IsReadyUnit}
 use Rattle.c_unit_typing.specs.WellTyped.{IsWellTyped}
-use Rattle.c_typing.specs.Settled.{IsBasic}
-use Rattle.c_check.proofs.UnitFacts.{accepts, answered-ok, breaks-rule, counts-nodes, erases, is-basic, is-only, is-ready, is-well-typed, within-limits}
+use Rattle.c_check.proofs.UnitFacts.{accepts, answered-ok, breaks-rule, counts-nodes, erases, is-only, is-ready, is-well-typed, within-limits}
 use Rattle.c_check.proofs.calls.check.Goals as goal
 
 pub returns-clause-typed : goal.returns-clause-typed
@@ -60,11 +59,6 @@ returns-clause-low c =
     let u = unit_view c.args.unit.now in
     answered-ok u c.checked.result (λ t. unit_height (erased_unit (typed_unit_view t.unit)) ≤ 256)
     (λ t j. subst (λ (v : TranslationUnit). unit_height v ≤ 256) (sym (erases u t j)) c.requires) c.checked.ensures
-
-pub returns-clause-basic : goal.returns-clause-basic
-returns-clause-basic c =
-    let u = unit_view c.args.unit.now in
-    answered-ok u c.checked.result (λ t. IsBasic t.types) (is-basic u) c.checked.ensures
 
 pub returns-clause-accepts : goal.returns-clause-accepts
 returns-clause-accepts c = accepts (unit_view c.args.unit.now) c.checked.result c.checked.ensures

@@ -20,7 +20,7 @@ use cure_scope::{SIGNATURE, Scope, column, pointer_slots, put_guarded};
 use cured_code::Instr;
 
 /// How many words a value of a type takes.
-fn words_in(k: &Scope<'_>, t: TypeId) -> u32
+pub(crate) fn words_in(k: &Scope<'_>, t: TypeId) -> u32
     ensures value { result ≡ words_in (whole_of k.now) t }
     ensures few { result ≤ 3 }
 {

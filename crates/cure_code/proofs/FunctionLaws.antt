@@ -36,7 +36,7 @@ use Rattle.cure_rules.specs.Accesses.{IsHome}
 use Rattle.cure_rules.specs.Functions.{words_at, parameter_words, areas_for, IsBody, HasSlots, IsCuredFunction}
 use Rattle.cure_rules.specs.Programs.{IsStart}
 use Rattle.cure_scope.specs.Scopes.{fixed_slots}
-use Rattle.cure_frames.specs.Storing.{HasHome, HaveHomes, CanStoreAll, ParametersStored}
+use Rattle.cure_calls.specs.Storing.{HasHome, HaveHomes, CanStoreAll, ParametersStored}
 use Rattle.cure_tables.specs.Objects.{IsObject}
 use Rattle.cure_bodies.specs.Bodies.{IsInside, BodyCured}
 use Rattle.cure_ready.specs.Curable.{IsCurable}

@@ -10,7 +10,7 @@ use Rattle.check_insert.specs.declared.draft.Draft.{Draft}
 use Rattle.cure_rules.specs.Known.{World}
 use Rattle.cure_rules.specs.Programs.{EntersMain}
 use Rattle.cure_ready.specs.Curable.{IsCurable}
-use Rattle.cure_frames.specs.Storing.{ParametersStored}
+use Rattle.cure_calls.specs.Storing.{ParametersStored}
 use Rattle.cure_bodies.specs.Bodies.{IsInside, BodyCured}
 
 -- the code of a function: its parameters are stored, and its body runs

@@ -8,7 +8,7 @@ ghost use Rattle.cil_form.specs.Shape.{result_of_shape};
 ghost use Rattle.cure_rules.specs.Functions.{IsCuredFunction, words_at};
 ghost use Rattle.cure_scope.specs.Scopes.{whole_of, world_of};
 ghost use Rattle.cure_code.specs.Settings.{IsSet, IsNumber, world_at};
-ghost use Rattle.cure_frames.specs.Storing.{CanStoreAll};
+ghost use Rattle.cure_calls.specs.Storing.{CanStoreAll};
 ghost use Rattle.cure_code.specs.Codes.{FunctionCode, IsCurableBody};
 
 use crate::drafts::{empty, finished};
@@ -17,7 +17,7 @@ use c_types::{TypeShape, Types};
 use cc_base::{Kinds, NoMemory, TypeId};
 use cil_form::{Function, Parameter, Planned};
 use cure_bodies::put_body;
-use cure_frames::put_parameters;
+use cure_calls::put_parameters;
 use cure_scope::Scope;
 use cure_tables::{areas_of, charge_of, variables, words_in};
 use cured_code::{Code, Locals};
@@ -60,7 +60,6 @@ fn words_of(types: &Types, kinds: &Kinds, parameters: &[Parameter]) -> u32
 fn code_in(alloc: Global, known: &Known<'_>, k: &Scope<'_>, f: &Function) -> Result<Code, NoMemory>
     requires known { known.now ≡ k.now.layouts.now.table }
     requires few { length f.now.parameters ≤ 127 }
-    requires typed { All (λ x. IsType k.now.layouts.now.table x.ty) f.now.parameters }
     requires stored { CanStoreAll (whole_of k.now) f.now.parameters }
     requires curable { IsCurableBody (world_of k.now) f.now.body.0.items }
     ensures { IfOk result (λ code. FunctionCode (world_of k.now) f.now code.0.items) }

@@ -10,7 +10,7 @@ use crate::setting::{Own, Setting, leave, scope};
 use cc_base::NoMemory;
 use cil_form::Program;
 use cure_bodies::put_body;
-use cure_frames::put_main;
+use cure_calls::put_main;
 use cure_scope::Scope;
 use cured_code::{Code, Function, Locals};
 use phys_types::Known;

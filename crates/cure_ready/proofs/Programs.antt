@@ -31,7 +31,7 @@ use Rattle.src_mem.specs.Runs as runs
 use Rattle.cil_form.specs.declared.program.Parameter.{Parameter}
 use Rattle.cil_form.specs.Typing.{IsScalar}
 use Rattle.cure_rules.specs.Accesses.{IsHome}
-use Rattle.cure_frames.specs.Storing.{HasHome as HasItsHome, HaveHomes, CanStore, CanStoreAll}
+use Rattle.cure_calls.specs.Storing.{HasHome as HasItsHome, HaveHomes, CanStore, CanStoreAll}
 use Rattle.cure_ready.proofs.Instructions.{can-store}
 
 -- Lists

@@ -7,7 +7,7 @@ use Rattle.cil_form.specs.Shape.{IsInShape, context_of, context_in}
 use Rattle.cil_form.specs.Told.{IsToldOf, IsSolutionOf}
 use Rattle.cure_rules.specs.Known.{World, AreSizes}
 use Rattle.cure_instrs.specs.Cured.{IsIn}
-use Rattle.cure_frames.specs.Storing.{HaveHomes, CanStoreAll}
+use Rattle.cure_calls.specs.Storing.{HaveHomes, CanStoreAll}
 use Rattle.cure_ready.specs.Curable.{HaveFewParameters, IsCurable}
 
 abbrev pub FunctionsAreCurable : Type 0

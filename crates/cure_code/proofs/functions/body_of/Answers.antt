@@ -2,7 +2,7 @@ use Rattle.std.proofs.Common.{ap, sym, subst, ◌∙◌, ◌+◌, map, arith}
 use Rattle.cil_form.specs.Machine.{plan}
 use Rattle.cure_rules.specs.Known.{Whole, World}
 use Rattle.cure_scope.specs.Scopes.{world_of}
-use Rattle.cure_frames.specs.Storing.{CanStoreAll}
+use Rattle.cure_calls.specs.Storing.{CanStoreAll}
 use Rattle.cure_code.proofs.FunctionLaws.{curable_by, parameters_stored}
 use Rattle.cure_code.proofs.functions.body_of.Goals as goal
 

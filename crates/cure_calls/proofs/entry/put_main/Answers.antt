@@ -1,8 +1,8 @@
 use Rattle.std.proofs.Common.{arith}
 use Rattle.check_insert.proofs.Laws.{grows_as}
 use Rattle.cure_scope.proofs.Laws.{grows_row}
-use Rattle.cure_frames.proofs.FrameLaws.{enters}
-use Rattle.cure_frames.proofs.entry.put_main.Goals as goal
+use Rattle.cure_calls.proofs.FrameLaws.{enters}
+use Rattle.cure_calls.proofs.entry.put_main.Goals as goal
 
 pub returns : goal.returns
 returns c =

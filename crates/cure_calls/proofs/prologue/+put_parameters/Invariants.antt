@@ -1,5 +1,5 @@
 use Rattle.std.proofs.Common.{length}
-use Rattle.cure_frames.proofs.prologue.+put_parameters.Given as goal
+use Rattle.cure_calls.proofs.prologue.+put_parameters.Given as goal
 
 abbrev pub decreases-put_parameters : goal.decreases-put_parameters
 decreases-put_parameters l = length l.parameters.now

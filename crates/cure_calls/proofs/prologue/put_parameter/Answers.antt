@@ -3,8 +3,8 @@ use Rattle.cure_scope.specs.Scopes.{whole_of}
 use Rattle.cure_scope.proofs.Laws.{grows_row}
 use Rattle.cure_instrs.proofs.PieceLaws.{always, grows_of, then_ready}
 use Rattle.cure_instrs.proofs.AccessLaws.{no_scalar, agreed}
-use Rattle.cure_frames.proofs.FrameLaws.{integer_parameter, pointer_parameter}
-use Rattle.cure_frames.proofs.prologue.put_parameter.Goals as goal
+use Rattle.cure_calls.proofs.FrameLaws.{integer_parameter, pointer_parameter}
+use Rattle.cure_calls.proofs.prologue.put_parameter.Goals as goal
 
 pub returns-in-Some : goal.returns-in-Some
 returns-in-Some c =

@@ -1,8 +1,6 @@
 -- The lines of prologues and of the entry to `main`.
 use Rattle.std.proofs.Common.{◌≡◌, refl, sym, subst, ℕ, suc, ◌+◌, inl, inr, List, [], ◌∷◌, length, Option, Some, None, arith}
-use Rattle.std.specs.List.{All}
 use Rattle.cc_base.specs.declared.number.TypeId.{TypeId}
-use Rattle.c_types.specs.Table.{Table, IsType}
 use Rattle.cc_base.specs.declared.number.NodeId.{NodeId}
 use Rattle.cc_base.specs.declared.place.Place.{Place}
 use Rattle.cc_base.specs.declared.kind.Kind.{Kind}
@@ -29,7 +27,7 @@ use Rattle.cure_scope.proofs.GuardLaws.{guarded}
 use Rattle.cure_instrs.specs.Cured.{IsPointerAt, CanReach}
 use Rattle.cure_instrs.specs.Lines.{IsIntegerAt, pointer_stored}
 use Rattle.cure_instrs.proofs.PieceLaws.{grows_of}
-use Rattle.cure_frames.specs.Storing.{ParameterStored, ParametersStored, CanStore, CanStoreAll, HasHome}
+use Rattle.cure_calls.specs.Storing.{ParameterStored, ParametersStored, CanStore, CanStoreAll, HasHome}
 
 abbrev pub address_slots : PointerSlots
 address_slots = record { first = 397; second = 397; third = 381 }
@@ -101,9 +99,6 @@ enters k main word at code e h =
     )
 
 -- drafts
-
-pub rest_typed : (table : Table) (xs rest : List Parameter) (x : Parameter) → xs ≡ x ∷ rest → All (λ (y : Parameter). IsType table y.ty) xs → All (λ (y : Parameter). IsType table y.ty) rest
-rest_typed table xs rest x e h i d l = subst (λ (ys : List Parameter). All (λ (y : Parameter). IsType table y.ty) ys) e h (suc i) d (omega (arith, l))
 
 pub no_parameters : (k : Scope) (ps : List Parameter) (p n : ℕ) (a b : Draft) → length ps ≡ 0 → Grows (Line []) (Unit {0}) a b
     → Grows (ParametersStored (world_of k) ps p n) (CanStoreAll (whole_of k) ps) a b

@@ -1,38 +1,18 @@
 //! The prologue of a function: its parameters are stored into their variables.
 ghost use Rattle.std.specs.Prelude.{◌≡◌, ◌+◌, ◌*◌, ◌≤◌, ◌<◌, length};
-ghost use Rattle.std.specs.List.{All};
-ghost use Rattle.c_types.specs.Table.{IsType};
 ghost use Rattle.check_insert.specs.Drafts.{Grows};
-ghost use Rattle.cure_rules.specs.Known.{words_in};
 ghost use Rattle.cure_scope.specs.Scopes.{whole_of, world_of};
 ghost use Rattle.cure_instrs.specs.Cured.{CanReach};
-ghost use Rattle.cure_frames.specs.Storing.{ParameterStored, ParametersStored, CanStoreAll};
+ghost use Rattle.cure_calls.specs.Storing.{ParameterStored, ParametersStored, CanStoreAll};
 
-use c_types::TypeShape;
+use crate::calling::words_in;
 use cc_base::{NodeId, TypeId};
 use check_forms::PointerSlots;
 use check_insert::{Draft, keep, put, refuse};
 use cil_form::Parameter;
-use cure_instrs::{integer_in, pointer_in, put_integer_stored, put_pointer_stored, word_number};
+use cure_instrs::{integer_in, pointer_in, put_integer_stored, put_pointer_stored};
 use cure_scope::{ADDRESS, NOUGHT, Scope};
 use cured_code::Instr;
-
-/// How many words a value of a type takes.
-fn words_of(k: &Scope<'_>, t: TypeId) -> u32
-    requires { IsType k.now.layouts.now.table t }
-    ensures words { result ≡ words_in (whole_of k.now) t }
-    ensures few { result ≤ 3 }
-{
-    match k.layouts.types().shape(t) {
-        TypeShape::Integer { .. } => 1,
-        TypeShape::Pointer(node, _) => word_number(k.kind_of(*node)),
-        TypeShape::Void
-        | TypeShape::Array(_, _)
-        | TypeShape::Function(_, _)
-        | TypeShape::Struct(_)
-        | TypeShape::Union(_) => 0,
-    }
-}
 
 /// A parameter that comes from slot p on is stored into a new variable.
 fn put_parameter(out: &mut Draft, k: &Scope<'_>, home: NodeId, t: TypeId, p: u32, variable: u32)
@@ -64,7 +44,6 @@ pub fn put_parameters(
     p: u32,
     variable: u32,
 )
-    requires typed { All (λ x. IsType k.now.layouts.now.table x.ty) parameters.now }
     requires slots { p + 3 * length parameters.now + 3 ≤ 1948 }
     requires variables { variable + length parameters.now < 4294967296 }
     ensures { Grows (ParametersStored (world_of k.now) parameters.now p variable)
@@ -73,7 +52,7 @@ pub fn put_parameters(
     let Some((first, rest)) = parameters.split_first() else {
         return keep(out);
     };
-    let next = p + words_of(k, first.ty);
+    let next = p + words_in(k, first.ty);
     match first.home {
         Some(home) => {
             put_parameter(out, k, home, first.ty, p, variable);

@@ -1,4 +1,5 @@
-//! Rows of the whole program, as data. Its words name files of rows, and a row is a list of lines. `== TITLE` begins it, `word WORD`
+//! Rows of the whole program, and of lowering, as data. Its words name files of rows: of lowering (`lowering.rt`) behind the word
+//! `lowering`, and of the program behind `program`. There a row is a list of lines. `== TITLE` begins it, `word WORD`
 //! adds a word of the command, `file NAME` begins a file and `input` what the program reads; behind these `|TEXT` adds a line,
 //! `~TEXT` text without a line feed, `byte N` one byte and `fill N BYTE` N of them. `again` takes over the files of the row
 //! before, and `written NAME` makes a file of what it wrote. `fails files N`, `fails input N`, `fails output N` and
@@ -7,6 +8,7 @@
 #![tactic(auto)]
 
 mod case;
+mod lowering;
 
 use case::{Case, Failing, Named};
 use cc_io::{MemFiles, MemSink, MemSource};
@@ -121,11 +123,31 @@ fn run_rows<W: Write>(alloc: Global, text: &str, to: &mut W) -> anyhow::Result<(
     Ok(())
 }
 
+/// Shows the rows of a text, which are of lowering or of the program.
+fn show_rows<W: Write>(
+    alloc: Global,
+    text: &str,
+    is_lowering: bool,
+    to: &mut W,
+) -> anyhow::Result<()> {
+    if is_lowering {
+        lowering::show_rows(alloc, text, to)
+    } else {
+        run_rows(alloc, text, to)
+    }
+}
+
 fn main(rt: HostRuntime) -> anyhow::Result<()> {
     let mut out = rt.stdout();
-    for name in env::args(&rt)?.skip(1) {
-        let text = fs::read_to_string(&rt, name.as_str())?;
-        run_rows(rt.alloc(), text.as_str(), &mut out)?;
+    let mut is_lowering = false;
+    for word in env::args(&rt)?.skip(1) {
+        let name = word.as_str();
+        if name == "lowering" || name == "program" {
+            is_lowering = name == "lowering";
+        } else {
+            let text = fs::read_to_string(&rt, name)?;
+            show_rows(rt.alloc(), text.as_str(), is_lowering, &mut out)?;
+        }
     }
     Ok(())
 }

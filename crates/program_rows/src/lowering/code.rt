@@ -1,5 +1,5 @@
 //! Writing instructions, one a line, and those that they hold one level deeper.
-use crate::pen::Pen;
+use crate::lowering::pen::Pen;
 use cil_form::{
     Access, Allocate, Calculate, Call, Code, Convert, Direction, Instr, Point, RuntimeCall, Set,
     Temp,

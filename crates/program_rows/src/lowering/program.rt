@@ -1,9 +1,9 @@
 //! Writing the code of a unit.
 ghost use Rattle.std.specs.Prelude.{◌≤◌, length};
 
-use crate::code::put_code;
-use crate::pen::Pen;
-use crate::row::Row;
+use crate::lowering::code::put_code;
+use crate::lowering::pen::Pen;
+use crate::lowering::row::Row;
 use c_front::typed;
 use cc_base::{Fault, NoMemory};
 use cil_form::{Cil, Function, Parameter, Program, Static};

@@ -10,7 +10,6 @@ mod lookups;
 mod machine;
 mod making;
 mod operation;
-mod pairs;
 mod reading;
 mod row;
 mod running;

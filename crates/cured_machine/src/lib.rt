@@ -10,6 +10,7 @@ mod lookups;
 mod machine;
 mod making;
 mod operation;
+mod pairs;
 mod reading;
 mod row;
 mod running;

@@ -13,7 +13,7 @@ use cc_base::Rule;
 use std::alloc::{AllocError, Global};
 
 /// One character of a literal.
-#[derive(Clone, Copy, Debug, PartialEq, Eq)]
+#[derive(Clone, Copy)]
 pub(crate) enum Character {
     /// A byte, as it stands or by an escape.
     Byte(u8),

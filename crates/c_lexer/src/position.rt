@@ -7,7 +7,7 @@ use crate::byte::is_blank;
 use cc_base::Place;
 
 /// A place in a text, and whether only blanks stand before it on its line.
-#[derive(Clone, Copy, Debug, PartialEq, Eq)]
+#[derive(Clone, Copy)]
 pub(crate) struct Position {
     pub place: Place,
     pub starts_line: bool,

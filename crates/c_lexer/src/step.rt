@@ -17,7 +17,7 @@ use crate::word::{word_kind, word_size};
 use cc_base::Rule;
 
 /// The piece that a text begins with: how many bytes it has, and what token it is, if it is one.
-#[derive(Clone, Copy, Debug, PartialEq, Eq)]
+#[derive(Clone, Copy)]
 pub(crate) struct Step {
     pub size: usize,
     pub kind: Option<TokenKind>,

@@ -15,7 +15,7 @@ pub struct FieldPlace {
 }
 
 /// What the table keeps of a type beside its shape.
-#[derive(Debug, Drop)]
+#[derive(Drop)]
 pub(crate) struct Kept {
     pub(crate) layout: Layout,
     /// How many pointers an object of the type holds.

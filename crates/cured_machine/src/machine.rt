@@ -6,7 +6,7 @@ use std::marker::Model;
 
 /// A function that waits for one that it called: its number, the slot that the results begin at, where its slots begin, and
 /// the place of its call among the operations.
-#[derive(Clone, Copy, Debug)]
+#[derive(Clone, Copy)]
 pub(crate) struct Waiting {
     pub(crate) function: u32,
     pub(crate) into: u32,

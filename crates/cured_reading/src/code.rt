@@ -19,14 +19,14 @@ use std::alloc::Global;
 const NEST_LIMIT: u32 = 1_024;
 
 /// The line that ends a part.
-#[derive(Clone, Copy, Debug, PartialEq, Eq)]
+#[derive(Clone, Copy)]
 pub(crate) enum Closing {
     Else,
     End,
 }
 
 /// What the line of a name does.
-#[derive(Clone, Copy, Debug, PartialEq, Eq)]
+#[derive(Clone, Copy)]
 enum Opening {
     Else,
     End,

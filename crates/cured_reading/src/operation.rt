@@ -5,7 +5,7 @@ ghost use Rattle.cured_reading.specs.Operations.{operation_name, format_of, made
 use cured_code::Instr;
 
 /// An instruction whose fields are numbers alone, by its name.
-#[derive(Clone, Copy, Debug, PartialEq, Eq)]
+#[derive(Clone, Copy)]
 pub(crate) enum Operation {
     Const,
     Copy,
@@ -56,7 +56,7 @@ pub(crate) enum Operation {
 }
 
 /// The fields of such an instruction: how many 32-bit numbers, and where a 64-bit number stands with them.
-#[derive(Clone, Copy, Debug, PartialEq, Eq)]
+#[derive(Clone, Copy)]
 pub(crate) enum Format {
     One,
     Two,

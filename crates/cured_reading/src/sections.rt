@@ -28,7 +28,7 @@ const LOCALS_LIMIT: u64 = 1_048_576;
 const LOCAL_BYTES_LIMIT: u64 = 3_145_728;
 
 /// What the line of a function gives: its signature, its slots, its charge, and how many areas its frame has.
-#[derive(Clone, Copy, Debug)]
+#[derive(Clone, Copy)]
 pub(crate) struct Head {
     pub(crate) sig: u32,
     pub(crate) slots: u32,

@@ -193,7 +193,7 @@ fn check(fields: &mut Fields) -> Result<Instr, Wrong>
 }
 
 /// How the fields of the line of an instruction are written.
-#[derive(Clone, Copy, Debug, PartialEq, Eq)]
+#[derive(Clone, Copy)]
 enum Wording {
     Ext,
     New,

@@ -55,7 +55,7 @@ pub enum CuredFault {
 }
 
 /// What is wrong where the text is read.
-#[derive(Clone, Copy, Debug, PartialEq, Eq)]
+#[derive(Clone, Copy)]
 pub(crate) enum Wrong {
     /// The line after the last one that was read does not come, or should not.
     Next,

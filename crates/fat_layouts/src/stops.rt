@@ -20,14 +20,14 @@ use phys_types::{Item, Spot};
 use std::alloc::Global;
 
 /// Where an item of a layout ends, as an offset in the source and as one in the cured program.
-#[derive(Clone, Copy, Debug, PartialEq, Eq)]
+#[derive(Clone, Copy)]
 pub(crate) struct Stop {
     pub(crate) end: u64,
     pub(crate) cured: u64,
 }
 
 /// The part of which the layout of a type consists: how many cells it has, and its stops, from the start on.
-#[derive(Debug, Drop)]
+#[derive(Drop)]
 pub(crate) struct CuredLayout {
     pub(crate) size: u64,
     pub(crate) stops: Vec<Stop>,

@@ -4,7 +4,7 @@
 use cc_base::TypeId;
 
 /// A type and a number for it.
-#[derive(Clone, Copy, Debug, PartialEq, Eq)]
+#[derive(Clone, Copy)]
 pub(crate) struct Numbered {
     pub(crate) ty: TypeId,
     pub(crate) number: usize,

@@ -15,7 +15,7 @@ use cc_base::{NoMemory, TypeId};
 use std::alloc::Global;
 
 /// The types of a table in an order in which the parts of a type come before it, and the place of each.
-#[derive(Debug, Drop)]
+#[derive(Drop)]
 pub(crate) struct Order {
     pub(crate) list: Vec<TypeId>,
     pub(crate) places: Vec<usize>,

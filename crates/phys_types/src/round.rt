@@ -27,7 +27,7 @@ use indexmap::IndexMap;
 use std::alloc::Global;
 
 /// Numbers of types, and what is kept of the layouts of the types in order, under the numbers of the round before.
-#[derive(Debug, Drop)]
+#[derive(Drop)]
 pub(crate) struct Round {
     pub(crate) numbers: Vec<usize>,
     pub(crate) layouts: Vec<Repeated>,

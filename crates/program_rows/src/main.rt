@@ -1,13 +1,15 @@
-//! Rows of the whole program, and of lowering, as data. Its words name files of rows: of lowering (`lowering.rt`) behind the word
-//! `lowering`, and of the program behind `program`. There a row is a list of lines. `== TITLE` begins it, `word WORD`
-//! adds a word of the command, `file NAME` begins a file and `input` what the program reads; behind these `|TEXT` adds a line,
-//! `~TEXT` text without a line feed, `byte N` one byte and `fill N BYTE` N of them. `again` takes over the files of the row
-//! before, and `written NAME` makes a file of what it wrote. `fails files N`, `fails input N`, `fails output N` and
-//! `fails report N` let the Nth call fail, `most N` gives the most bytes of one read, and `hush` hides what is written. For
-//! each row the program writes its title, what was written and what was reported, both with a `|` behind them, and the status.
+//! Rows of the whole program and of its passes, as data. Its words name files of rows: of lexer, parser and checker (`front.rt`)
+//! behind the word `front`, of lowering (`lowering.rt`) behind `lowering`, and of the program behind `program`. There a row is a
+//! list of lines. `== TITLE` begins it, `word WORD` adds a word of the command, `file NAME` begins a file and `input` what the
+//! program reads; behind these `|TEXT` adds a line, `~TEXT` text without a line feed, `byte N` one byte and `fill N BYTE` N of
+//! them. `again` takes over the files of the row before, and `written NAME` makes a file of what it wrote. `fails files N`,
+//! `fails input N`, `fails output N` and `fails report N` let the Nth call fail, `most N` gives the most bytes of one read, and
+//! `hush` hides what is written. For each row the program writes its title, what was written and what was reported, both with a
+//! `|` behind them, and the status.
 #![tactic(auto)]
 
 mod case;
+mod front;
 mod lowering;
 
 use case::{Case, Failing, Named};
@@ -123,30 +125,44 @@ fn run_rows<W: Write>(alloc: Global, text: &str, to: &mut W) -> anyhow::Result<(
     Ok(())
 }
 
-/// Shows the rows of a text, which are of lowering or of the program.
-fn show_rows<W: Write>(
-    alloc: Global,
-    text: &str,
-    is_lowering: bool,
-    to: &mut W,
-) -> anyhow::Result<()> {
-    if is_lowering {
-        lowering::show_rows(alloc, text, to)
-    } else {
-        run_rows(alloc, text, to)
+/// What the rows of a file ask about.
+#[derive(Clone, Copy)]
+enum Asked {
+    Front,
+    Lowering,
+    Program,
+}
+
+/// What the rows of the files behind a word ask about; nothing for the name of a file.
+fn asked(word: &str) -> Option<Asked> {
+    match word {
+        "front" => Some(Asked::Front),
+        "lowering" => Some(Asked::Lowering),
+        "program" => Some(Asked::Program),
+        _ => None,
+    }
+}
+
+/// Shows the rows of a text with what is answered.
+fn show_rows<W: Write>(alloc: Global, text: &str, about: Asked, to: &mut W) -> anyhow::Result<()> {
+    match about {
+        Asked::Front => front::show_rows(alloc, text, to),
+        Asked::Lowering => lowering::show_rows(alloc, text, to),
+        Asked::Program => run_rows(alloc, text, to),
     }
 }
 
 fn main(rt: HostRuntime) -> anyhow::Result<()> {
     let mut out = rt.stdout();
-    let mut is_lowering = false;
+    let mut about = Asked::Program;
     for word in env::args(&rt)?.skip(1) {
         let name = word.as_str();
-        if name == "lowering" || name == "program" {
-            is_lowering = name == "lowering";
-        } else {
-            let text = fs::read_to_string(&rt, name)?;
-            show_rows(rt.alloc(), text.as_str(), is_lowering, &mut out)?;
+        match asked(name) {
+            Some(next) => about = next,
+            None => {
+                let text = fs::read_to_string(&rt, name)?;
+                show_rows(rt.alloc(), text.as_str(), about, &mut out)?;
+            }
         }
     }
     Ok(())

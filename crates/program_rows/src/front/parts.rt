@@ -1,7 +1,7 @@
 //! What the parser answers.
 ghost use Rattle.std.specs.Prelude.{◌≤◌, length};
 
-use crate::shape::{Piece, shape};
+use crate::front::shape::{Piece, shape};
 use c_expr_parse::{Level, parse_declarator, parse_expr, parse_specifiers};
 use c_lexer::tokens;
 use c_parser::parse_unit;

@@ -1,8 +1,8 @@
 //! What a row asks, by its word.
 ghost use Rattle.std.specs.Prelude.{◌≤◌, length};
 
-use crate::objects::{Wanted, declared, layout, typed_expression};
-use crate::parts::{declarator, expression, specifiers, unit};
+use crate::front::objects::{Wanted, declared, layout, typed_expression};
+use crate::front::parts::{declarator, expression, specifiers, unit};
 use c_expr_parse::Level;
 use c_front::typed;
 use c_lexer::{Token, literal_bytes, tokens};

@@ -1,21 +1,17 @@
-//! Rows of texts in C, as data: what the lexer, the parser and the checker answer to each. Its words name files of rows, and a
-//! row is a line of a word and a text. The word is what is asked (`asking.rt`); the text goes on behind what the lines above it
-//! put together (`text.rt`). A line with `#` before it is a heading. Each line is written as it stands, and behind a row what is
-//! answered.
-#![tactic(auto)]
-
+//! Rows of texts in C: what the lexer, the parser and the checker answer to each. A row is a line of a word and a text. The word is
+//! what is asked (`asking.rt`); the text goes on behind what the lines above it put together (`text.rt`). A line with `#` before it
+//! is a heading. Each line is written as it stands, and behind a row what is answered.
 mod asking;
 mod objects;
 mod parts;
 mod shape;
 mod text;
 
-use crate::asking::answered;
-use crate::text::add_line;
+use asking::answered;
 use cc_base::{Fault, Limit};
 use std::alloc::{AllocError, Global};
 use std::io::Write;
-use std::{env, fs};
+use text::add_line;
 
 /// A fault as it is shown. Which of the tokens that lie too deep is named isn't told by any contract, so its place isn't shown.
 fn shown(alloc: Global, fault: Fault) -> Result<String, AllocError> {
@@ -40,7 +36,7 @@ fn answer(alloc: Global, word: &str, text: &[u8]) -> Result<String, AllocError> 
 }
 
 /// Writes the lines of a file, each row with its answer.
-fn show_rows<W: Write>(alloc: Global, file: &str, to: &mut W) -> anyhow::Result<()> {
+pub(crate) fn show_rows<W: Write>(alloc: Global, file: &str, to: &mut W) -> anyhow::Result<()> {
     let mut text = Vec::new(alloc);
     for line in file.lines() {
         writeln!(to, "{line}")?;
@@ -51,15 +47,6 @@ fn show_rows<W: Write>(alloc: Global, file: &str, to: &mut W) -> anyhow::Result<
             writeln!(to, "    {answer}")?;
             text.clear();
         }
-    }
-    Ok(())
-}
-
-fn main(rt: HostRuntime) -> anyhow::Result<()> {
-    let mut out = rt.stdout();
-    for name in env::args(&rt)?.skip(1) {
-        let file = fs::read_to_string(&rt, name.as_str())?;
-        show_rows(rt.alloc(), file.as_str(), &mut out)?;
     }
     Ok(())
 }

@@ -134,7 +134,7 @@ enum Asked {
 }
 
 /// What the rows of the files behind a word ask about; nothing for the name of a file.
-fn asked(word: &str) -> Option<Asked> {
+fn rows_behind(word: &str) -> Option<Asked> {
     match word {
         "front" => Some(Asked::Front),
         "lowering" => Some(Asked::Lowering),
@@ -157,7 +157,7 @@ fn main(rt: HostRuntime) -> anyhow::Result<()> {
     let mut about = Asked::Program;
     for word in env::args(&rt)?.skip(1) {
         let name = word.as_str();
-        match asked(name) {
+        match rows_behind(name) {
             Some(next) => about = next,
             None => {
                 let text = fs::read_to_string(&rt, name)?;

@@ -53,11 +53,19 @@ impl LabelValues {
 }
 
 /// The labels of a block so far.
-#[derive(Drop)]
 pub(crate) struct Labels {
     pub(crate) values: LabelValues,
     /// Whether there is a `default`.
     pub(crate) default: bool,
+}
+
+impl Drop for Labels {
+    fn drop(self) {
+        let Self {
+            values: _,
+            default: _,
+        } = self;
+    }
 }
 
 impl Labels {

@@ -121,7 +121,6 @@ impl Homes {
 }
 
 /// What is known of names with linkage, and of objects that live as long as the program.
-#[derive(Drop)]
 pub struct Linkage {
     /// What has linkage, wherever it was declared first.
     pub linked: FirstDeclarations,
@@ -129,6 +128,16 @@ pub struct Linkage {
     pub defined: Names,
     /// The homes of the objects that live as long as the program.
     pub statics: Homes,
+}
+
+impl Drop for Linkage {
+    fn drop(self) {
+        let Self {
+            linked: _,
+            defined: _,
+            statics: _,
+        } = self;
+    }
 }
 
 impl Linkage {

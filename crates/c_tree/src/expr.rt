@@ -9,7 +9,6 @@ use cc_base::Place;
 
 /// An expression (C99 6.5). Each place is that of the token named beside it.
 #[cycle(expressions)]
-#[derive(Drop)]
 pub enum Expr {
     Name(Identifier),
     /// An integer constant: its type and its value.
@@ -42,23 +41,61 @@ pub enum Expr {
     Comma(Boxed<Expr>, Boxed<Expr>),
 }
 
+impl Drop for Expr {
+    #[cycle(expr_drops)]
+    fn drop(self) {
+        match self {
+            Self::Name(_)
+            | Self::Integer(_, _, _)
+            | Self::Character(_, _)
+            | Self::String(_)
+            | Self::Paren(_, _)
+            | Self::Index(_, _, _)
+            | Self::Call(_, _, _)
+            | Self::Member(_, _, _, _)
+            | Self::Postfix(_, _, _)
+            | Self::Prefix(_, _, _)
+            | Self::SizeOfType(_, _, _)
+            | Self::Cast(_, _, _)
+            | Self::Infix(_, _, _, _)
+            | Self::Conditional(_, _, _, _)
+            | Self::Assign(_, _, _, _)
+            | Self::Comma(_, _) => {}
+        }
+    }
+}
+
 /// A type in a cast or in `sizeof` (C99 6.7.6): a declaration without a name.
 #[cycle(expressions)]
-#[derive(Drop)]
 pub struct TypeName {
     pub specifiers: Specifiers,
     pub declarator: Option<Declarator>,
 }
 
+impl Drop for TypeName {
+    #[cycle(expr_drops)]
+    fn drop(self) {
+        let Self {
+            specifiers: _,
+            declarator: _,
+        } = self;
+    }
+}
+
 /// Storage words, qualifiers and type words in the order of the text.
 #[cycle(expressions)]
-#[derive(Drop)]
 pub struct Specifiers {
     pub list: Items<Specifier>,
 }
 
+impl Drop for Specifiers {
+    #[cycle(expr_drops)]
+    fn drop(self) {
+        let Self { list: _ } = self;
+    }
+}
+
 #[cycle(expressions)]
-#[derive(Drop)]
 pub enum Specifier {
     /// A storage word, a qualifier, `inline`, or a word for a type.
     Keyword(Word),
@@ -74,33 +111,73 @@ pub enum Specifier {
     Enumeration(Place, Option<Identifier>, Place, Items<Enumerator>, bool),
 }
 
+impl Drop for Specifier {
+    #[cycle(expr_drops)]
+    fn drop(self) {
+        match self {
+            Self::Keyword(_)
+            | Self::Typedef(_)
+            | Self::Tagged(_, _, _)
+            | Self::Aggregate(_, _, _, _, _)
+            | Self::Enum(_, _)
+            | Self::Enumeration(_, _, _, _, _) => {}
+        }
+    }
+}
+
 /// One row of members: `specifiers declarators ;`.
 #[cycle(expressions)]
-#[derive(Drop)]
 pub struct Members {
     pub specifiers: Specifiers,
     pub declarators: Items<Declarator>,
 }
 
+impl Drop for Members {
+    #[cycle(expr_drops)]
+    fn drop(self) {
+        let Self {
+            specifiers: _,
+            declarators: _,
+        } = self;
+    }
+}
+
 #[cycle(expressions)]
-#[derive(Drop)]
 pub enum Enumerator {
     Plain(Identifier),
     /// The name, the `=` and the value.
     Valued(Identifier, Place, Expr),
 }
 
+impl Drop for Enumerator {
+    #[cycle(expr_drops)]
+    fn drop(self) {
+        match self {
+            Self::Plain(_) | Self::Valued(_, _, _) => {}
+        }
+    }
+}
+
 /// Stars, then a name, nothing or a declarator in parentheses, then array and function parts.
 #[cycle(expressions)]
-#[derive(Drop)]
 pub struct Declarator {
     pub stars: Items<Star>,
     pub core: Core,
     pub parts: Items<Part>,
 }
 
+impl Drop for Declarator {
+    #[cycle(expr_drops)]
+    fn drop(self) {
+        let Self {
+            stars: _,
+            core: _,
+            parts: _,
+        } = self;
+    }
+}
+
 #[cycle(expressions)]
-#[derive(Drop)]
 pub enum Core {
     Names(Identifier),
     Unnamed,
@@ -108,8 +185,16 @@ pub enum Core {
     Nested(Place, Boxed<Declarator>),
 }
 
+impl Drop for Core {
+    #[cycle(expr_drops)]
+    fn drop(self) {
+        match self {
+            Self::Names(_) | Self::Unnamed | Self::Nested(_, _) => {}
+        }
+    }
+}
+
 #[cycle(expressions)]
-#[derive(Drop)]
 pub enum Part {
     /// The `[`, `static` and qualifiers, and the size.
     Array(Place, Items<Word>, Option<Expr>),
@@ -117,9 +202,27 @@ pub enum Part {
     Function(Place, Items<Parameter>),
 }
 
+impl Drop for Part {
+    #[cycle(expr_drops)]
+    fn drop(self) {
+        match self {
+            Self::Array(_, _, _) | Self::Function(_, _) => {}
+        }
+    }
+}
+
 #[cycle(expressions)]
-#[derive(Drop)]
 pub struct Parameter {
     pub specifiers: Specifiers,
     pub declarator: Option<Declarator>,
+}
+
+impl Drop for Parameter {
+    #[cycle(expr_drops)]
+    fn drop(self) {
+        let Self {
+            specifiers: _,
+            declarator: _,
+        } = self;
+    }
 }

@@ -82,7 +82,6 @@ pub enum TypedExpr {
 
 /// An expression that designates an object or a part of one (C99 6.3.2.1).
 #[cycle(typed)]
-#[derive(Drop)]
 pub enum TypedPlace {
     /// A variable, by the node of its home.
     Variable(Identifier, NodeId, TypeId),
@@ -102,26 +101,59 @@ pub enum TypedPlace {
     StructComma(Boxed<TypedExpr>, Boxed<TypedPlace>),
 }
 
+impl Drop for TypedPlace {
+    #[cycle(typed_drops)]
+    fn drop(self) {
+        match self {
+            Self::Variable(_, _, _)
+            | Self::String(_, _, _)
+            | Self::ParenPlace(_, _)
+            | Self::Target(_, _, _)
+            | Self::Element(_, _, _, _, _)
+            | Self::Member(_, _, _, _, _, _)
+            | Self::MemberAt(_, _, _, _, _, _)
+            | Self::StructAssign(_, _, _)
+            | Self::StructConditional(_, _, _, _)
+            | Self::StructComma(_, _) => {}
+        }
+    }
+}
+
 /// A type name and its type.
 #[cycle(typed)]
-#[derive(Drop)]
 pub struct TypedTypeName {
     pub specifiers: TypedSpecifiers,
     pub declarator: Option<TypedForm>,
     pub ty: TypeId,
 }
 
+impl Drop for TypedTypeName {
+    #[cycle(typed_drops)]
+    fn drop(self) {
+        let Self {
+            specifiers: _,
+            declarator: _,
+            ty: _,
+        } = self;
+    }
+}
+
 /// Specifiers in the order of the text, and the type that they name together.
 #[cycle(typed)]
-#[derive(Drop)]
 pub struct TypedSpecifiers {
     pub list: Items<TypedSpecifier>,
     pub ty: TypeId,
 }
 
+impl Drop for TypedSpecifiers {
+    #[cycle(typed_drops)]
+    fn drop(self) {
+        let Self { list: _, ty: _ } = self;
+    }
+}
+
 /// A specifier, with the type that it names.
 #[cycle(typed)]
-#[derive(Drop)]
 pub enum TypedSpecifier {
     Keyword(Word),
     Typedef(Identifier, TypeId),
@@ -131,17 +163,39 @@ pub enum TypedSpecifier {
     Enumeration(Place, Option<Identifier>, Place, Items<TypedEnumerator>, bool),
 }
 
+impl Drop for TypedSpecifier {
+    #[cycle(typed_drops)]
+    fn drop(self) {
+        match self {
+            Self::Keyword(_)
+            | Self::Typedef(_, _)
+            | Self::Tagged(_, _, _, _)
+            | Self::Aggregate(_, _, _, _, _, _)
+            | Self::Enum(_, _)
+            | Self::Enumeration(_, _, _, _, _) => {}
+        }
+    }
+}
+
 /// One row of members.
 #[cycle(typed)]
-#[derive(Drop)]
 pub struct TypedMembers {
     pub specifiers: TypedSpecifiers,
     pub declarators: Items<TypedDeclarator>,
 }
 
+impl Drop for TypedMembers {
+    #[cycle(typed_drops)]
+    fn drop(self) {
+        let Self {
+            specifiers: _,
+            declarators: _,
+        } = self;
+    }
+}
+
 /// An enumerator with its value.
 #[cycle(typed)]
-#[derive(Drop)]
 pub enum TypedEnumerator {
     /// A name and its value.
     Plain(Identifier, i128),
@@ -149,27 +203,55 @@ pub enum TypedEnumerator {
     Valued(Identifier, Place, TypedExpr, i128),
 }
 
+impl Drop for TypedEnumerator {
+    #[cycle(typed_drops)]
+    fn drop(self) {
+        match self {
+            Self::Plain(_, _) | Self::Valued(_, _, _, _) => {}
+        }
+    }
+}
+
 /// A declarator: the type that it gives to its name, and the home of that.
 #[cycle(typed)]
-#[derive(Drop)]
 pub struct TypedDeclarator {
     pub form: TypedForm,
     pub ty: TypeId,
     pub home: Option<NodeId>,
 }
 
+impl Drop for TypedDeclarator {
+    #[cycle(typed_drops)]
+    fn drop(self) {
+        let Self {
+            form: _,
+            ty: _,
+            home: _,
+        } = self;
+    }
+}
+
 /// Stars, then a name, nothing or a form in parentheses, then array and function parts.
 #[cycle(typed)]
-#[derive(Drop)]
 pub struct TypedForm {
     pub stars: Items<TypedStar>,
     pub core: TypedCore,
     pub parts: Items<TypedPart>,
 }
 
+impl Drop for TypedForm {
+    #[cycle(typed_drops)]
+    fn drop(self) {
+        let Self {
+            stars: _,
+            core: _,
+            parts: _,
+        } = self;
+    }
+}
+
 /// What a declarator has in its middle.
 #[cycle(typed)]
-#[derive(Drop)]
 pub enum TypedCore {
     /// The name and its home.
     Names(Identifier, Home),
@@ -178,9 +260,17 @@ pub enum TypedCore {
     Nested(Place, Boxed<TypedForm>),
 }
 
+impl Drop for TypedCore {
+    #[cycle(typed_drops)]
+    fn drop(self) {
+        match self {
+            Self::Names(_, _) | Self::Unnamed | Self::Nested(_, _) => {}
+        }
+    }
+}
+
 /// An array or function part.
 #[cycle(typed)]
-#[derive(Drop)]
 pub enum TypedPart {
     /// `[]` with the words in it.
     Array(Place, Items<Word>),
@@ -190,12 +280,32 @@ pub enum TypedPart {
     Function(Place, Items<TypedParameter>),
 }
 
+impl Drop for TypedPart {
+    #[cycle(typed_drops)]
+    fn drop(self) {
+        match self {
+            Self::Array(_, _) | Self::SizedArray(_, _, _, _) | Self::Function(_, _) => {}
+        }
+    }
+}
+
 /// A parameter, with its type as the function has it.
 #[cycle(typed)]
-#[derive(Drop)]
 pub struct TypedParameter {
     pub specifiers: TypedSpecifiers,
     pub declarator: Option<TypedForm>,
     pub adjusted: Option<Adjusted>,
     pub ty: TypeId,
+}
+
+impl Drop for TypedParameter {
+    #[cycle(typed_drops)]
+    fn drop(self) {
+        let Self {
+            specifiers: _,
+            declarator: _,
+            adjusted: _,
+            ty: _,
+        } = self;
+    }
 }

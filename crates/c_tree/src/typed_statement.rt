@@ -7,7 +7,6 @@ use cc_base::{Place, TypeId};
 
 /// An initialiser (C99 6.7.8).
 #[cycle(typed_initialisers)]
-#[derive(Drop)]
 pub enum TypedInitialiser {
     /// A value, converted to the type of what it initialises.
     Value(TypedExpr),
@@ -19,33 +18,66 @@ pub enum TypedInitialiser {
     Listed(Place, Items<TypedItem>, bool, TypeId),
 }
 
+impl Drop for TypedInitialiser {
+    #[cycle(initialiser_drops)]
+    fn drop(self) {
+        match self {
+            Self::Value(_) | Self::Copied(_, _) | Self::Text(_, _) | Self::Listed(_, _, _, _) => {}
+        }
+    }
+}
+
 /// An item in braces: the offset of what it initialises in what is listed, its type and its initialiser.
 #[cycle(typed_initialisers)]
-#[derive(Drop)]
 pub struct TypedItem {
     pub offset: u64,
     pub ty: TypeId,
     pub initialiser: TypedInitialiser,
 }
 
-#[derive(Drop)]
+impl Drop for TypedItem {
+    #[cycle(initialiser_drops)]
+    fn drop(self) {
+        let Self {
+            offset: _,
+            ty: _,
+            initialiser: _,
+        } = self;
+    }
+}
+
 pub enum TypedInitDeclarator {
     Plain(TypedDeclarator),
     /// The declarator, the `=` and the initialiser.
     Initialised(TypedDeclarator, Place, TypedInitialiser),
 }
 
+impl Drop for TypedInitDeclarator {
+    fn drop(self) {
+        match self {
+            Self::Plain(_) | Self::Initialised(_, _, _) => {}
+        }
+    }
+}
+
 /// `specifiers declarators ;` (C99 6.7).
-#[derive(Drop)]
 pub struct TypedDeclaration {
     pub specifiers: TypedSpecifiers,
     pub declarators: Items<TypedInitDeclarator>,
 }
 
+impl Drop for TypedDeclaration {
+    fn drop(self) {
+        let Self {
+            specifiers: _,
+            declarators: _,
+        } = self;
+    }
+}
+
 /// A statement (C99 6.8). The places before an expression in parentheses are those of the keyword
 /// and of the `(`. Parts stand in boxes, as in `Statement`.
 #[cycle(typed_statements)]
-#[derive(Drop)]
 pub enum TypedStatement {
     /// The `{` and what the block holds.
     Block(Place, Items<TypedBlockItem>),
@@ -81,9 +113,29 @@ pub enum TypedStatement {
     Return(Place, Option<Boxed<TypedExpr>>),
 }
 
+impl Drop for TypedStatement {
+    #[cycle(typed_statement_drops)]
+    fn drop(self) {
+        match self {
+            Self::Block(_, _)
+            | Self::Express(_)
+            | Self::Empty
+            | Self::If(_, _, _, _)
+            | Self::IfElse(_, _, _, _, _)
+            | Self::Switch(_, _, _, _, _)
+            | Self::While(_, _, _, _)
+            | Self::DoWhile(_, _, _, _)
+            | Self::For(_, _, _, _, _, _)
+            | Self::ForDeclaration(_, _, _, _, _, _)
+            | Self::Break(_)
+            | Self::Continue(_)
+            | Self::Return(_, _) => {}
+        }
+    }
+}
+
 /// What a block holds. Labels stand only in the block of a `switch`.
 #[cycle(typed_statements)]
-#[derive(Drop)]
 pub enum TypedBlockItem {
     Statement(TypedStatement),
     Declaration(TypedDeclaration),
@@ -92,8 +144,16 @@ pub enum TypedBlockItem {
     Default(Place),
 }
 
+impl Drop for TypedBlockItem {
+    #[cycle(typed_statement_drops)]
+    fn drop(self) {
+        match self {
+            Self::Statement(_) | Self::Declaration(_) | Self::Case(_, _, _) | Self::Default(_) => {}
+        }
+    }
+}
+
 /// A function with its body (C99 6.9.1).
-#[derive(Drop)]
 pub struct TypedFunction {
     pub specifiers: TypedSpecifiers,
     pub declarator: TypedDeclarator,
@@ -102,14 +162,37 @@ pub struct TypedFunction {
     pub body: Items<TypedBlockItem>,
 }
 
-#[derive(Drop)]
+impl Drop for TypedFunction {
+    fn drop(self) {
+        let Self {
+            specifiers: _,
+            declarator: _,
+            brace: _,
+            body: _,
+        } = self;
+    }
+}
+
 pub enum TypedExternal {
     Declaration(TypedDeclaration),
     Function(TypedFunction),
 }
 
+impl Drop for TypedExternal {
+    fn drop(self) {
+        match self {
+            Self::Declaration(_) | Self::Function(_) => {}
+        }
+    }
+}
+
 /// A unit: declarations and function definitions in the order of the text (C99 6.9).
-#[derive(Drop)]
 pub struct TypedUnit {
     pub externals: Items<TypedExternal>,
+}
+
+impl Drop for TypedUnit {
+    fn drop(self) {
+        let Self { externals: _ } = self;
+    }
 }

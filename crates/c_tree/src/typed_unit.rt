@@ -15,10 +15,20 @@ pub struct Printed {
 }
 
 /// A well typed unit: its typed tree, its types, the number of its nodes, and those that are printed, in the order of their places.
-#[derive(Drop)]
 pub struct Typed {
     pub unit: TypedUnit,
     pub types: Types,
     pub nodes: u32,
     pub printed: Items<Printed>,
+}
+
+impl Drop for Typed {
+    fn drop(self) {
+        let Self {
+            unit: _,
+            types: _,
+            nodes: _,
+            printed: _,
+        } = self;
+    }
 }

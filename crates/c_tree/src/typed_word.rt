@@ -71,8 +71,14 @@ pub enum Runtime {
 }
 
 /// A `*` of a declarator, and its node.
-#[derive(Debug, Drop)]
+#[derive(Debug)]
 pub struct TypedStar {
     pub star: Star,
     pub node: NodeId,
+}
+
+impl Drop for TypedStar {
+    fn drop(self) {
+        let Self { star: _, node: _ } = self;
+    }
 }

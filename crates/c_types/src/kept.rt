@@ -15,7 +15,6 @@ pub struct FieldPlace {
 }
 
 /// What the table keeps of a type beside its shape.
-#[derive(Drop)]
 pub(crate) struct Kept {
     pub(crate) layout: Layout,
     /// How many pointers an object of the type holds.
@@ -23,6 +22,17 @@ pub(crate) struct Kept {
     pub(crate) fields: Vec<FieldPlace>,
     /// The first type of the table that is the same type (C99 6.2.7).
     pub(crate) first: TypeId,
+}
+
+impl Drop for Kept {
+    fn drop(self) {
+        let Self {
+            layout: _,
+            pointers: _,
+            fields: _,
+            first: _,
+        } = self;
+    }
 }
 
 impl Clone for Kept {

@@ -81,7 +81,7 @@ impl Hash for TypeList {
 }
 
 /// What a type is made of.
-#[derive(Debug, PartialEq, Eq, Hash, Drop)]
+#[derive(Debug, PartialEq, Eq, Hash)]
 pub enum TypeShape {
     /// `void` (C99 6.2.5).
     Void,
@@ -97,6 +97,23 @@ pub enum TypeShape {
     Struct(u32),
     /// A union, by the number of its declaration (C99 6.7.2.1).
     Union(u32),
+}
+
+impl Drop for TypeShape {
+    fn drop(self) {
+        match self {
+            Self::Void
+            | Self::Integer {
+                bytes: _,
+                signed: _,
+            }
+            | Self::Pointer(_, _)
+            | Self::Array(_, _)
+            | Self::Function(_, _)
+            | Self::Struct(_)
+            | Self::Union(_) => {}
+        }
+    }
 }
 
 impl Clone for TypeShape {

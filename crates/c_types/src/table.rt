@@ -33,12 +33,21 @@ const MOST_BYTES: u64 = 1_048_576;
 
 /// The table of the types of a unit. Contracts see the list of its types, in which a type's number
 /// is its place.
-#[derive(Drop)]
 pub struct Types {
     alloc: Global,
     entries: IndexMap<TypeShape, Kept>,
     /// Beside each canonical shape the first type that has it.
     known: IndexMap<TypeShape, TypeId>,
+}
+
+impl Drop for Types {
+    fn drop(self) {
+        let Self {
+            alloc: _,
+            entries: _,
+            known: _,
+        } = self;
+    }
 }
 
 impl Model for Types {

@@ -12,11 +12,20 @@ use std::alloc::Global;
 use std::marker::Model;
 
 /// The scopes inside the file's. What a name stands for is on top of its stack, however many scopes are open.
-#[derive(Drop)]
 pub struct InnerScopes {
     levels: Vec<Level>,
     names: NameStacks<Declared>,
     tags: NameStacks<Tag>,
+}
+
+impl Drop for InnerScopes {
+    fn drop(self) {
+        let Self {
+            levels: _,
+            names: _,
+            tags: _,
+        } = self;
+    }
 }
 
 impl Model for InnerScopes {

@@ -13,10 +13,15 @@ use std::alloc::Global;
 use std::marker::Model;
 
 /// A scope. Contracts see its names and its tags as lists, in the order of their declarations.
-#[derive(Drop)]
 pub struct Level {
     names: IndexMap<Vec<u8>, Declared>,
     tags: IndexMap<Vec<u8>, Tag>,
+}
+
+impl Drop for Level {
+    fn drop(self) {
+        let Self { names: _, tags: _ } = self;
+    }
 }
 
 impl Model for Level {

@@ -11,8 +11,13 @@ use std::alloc::Global;
 use std::marker::Model;
 
 /// Names of members, in the order of their declarations. Contracts see the list.
-#[derive(Drop)]
 pub struct MemberNames(IndexSet<Vec<u8>>);
+
+impl Drop for MemberNames {
+    fn drop(self) {
+        let Self(_) = self;
+    }
+}
 
 impl Model for MemberNames {
     ghost use Rattle.std.specs.Prelude.{List, map};

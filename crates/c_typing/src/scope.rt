@@ -22,7 +22,6 @@ const MOST_GLOBALS: u64 = 4_194_304;
 const MOST_CELLS: u64 = 65_536;
 
 /// What names and tags stand for, scope by scope, and the number of the next node.
-#[derive(Drop)]
 pub struct Scope {
     alloc: Global,
     file: Level,
@@ -32,6 +31,21 @@ pub struct Scope {
     next_node: u32,
     globals: u64,
     cells: u64,
+}
+
+impl Drop for Scope {
+    fn drop(self) {
+        let Self {
+            alloc: _,
+            file: _,
+            inner: _,
+            defined: _,
+            members: _,
+            next_node: _,
+            globals: _,
+            cells: _,
+        } = self;
+    }
 }
 
 impl Model for Scope {

@@ -7,9 +7,14 @@ use c_types::Types;
 use std::marker::Model;
 
 /// A program in three-address code that is in shape. Contracts see it as its parts.
-#[derive(Drop)]
 pub struct Cil {
     program: Program,
+}
+
+impl Drop for Cil {
+    fn drop(self) {
+        let Self { program: _ } = self;
+    }
 }
 
 impl Model for Cil {

@@ -308,7 +308,6 @@ pub enum RuntimeCall {
 }
 
 /// An instruction of three-address code.
-#[derive(Drop)]
 #[cycle(code)]
 pub enum Instr {
     Set(Set),
@@ -341,8 +340,44 @@ pub enum Instr {
     },
 }
 
+impl Drop for Instr {
+    #[cycle(instr_drops)]
+    fn drop(self) {
+        match self {
+            Self::Set(_)
+            | Self::Calculate(_)
+            | Self::Point(_)
+            | Self::Convert(_)
+            | Self::Access(_)
+            | Self::Allocate(_)
+            | Self::Call(_)
+            | Self::Runtime(_)
+            | Self::If {
+                condition: _,
+                then: _,
+                otherwise: _,
+            }
+            | Self::Block(_)
+            | Self::Loop(_)
+            | Self::Break(_)
+            | Self::Return
+            | Self::ReturnValue {
+                value: _,
+                ty: _,
+                place: _,
+            } => {}
+        }
+    }
+}
+
 /// Instructions in order. A plain list: instructions hold such lists themselves, so contracts see its items through the
 /// field.
-#[derive(Drop)]
 #[cycle(code)]
 pub struct Code(pub Vec<Instr>);
+
+impl Drop for Code {
+    #[cycle(instr_drops)]
+    fn drop(self) {
+        let Self(_) = self;
+    }
+}

@@ -14,7 +14,6 @@ pub struct Parameter {
 }
 
 /// A defined function: its type, its parameters, its local variables and its body.
-#[derive(Drop)]
 pub struct Function {
     pub ty: TypeId,
     pub parameters: Parameters,
@@ -22,11 +21,30 @@ pub struct Function {
     pub body: Code,
 }
 
+impl Drop for Function {
+    fn drop(self) {
+        let Self {
+            ty: _,
+            parameters: _,
+            locals: _,
+            body: _,
+        } = self;
+    }
+}
+
 /// A static object, which begins at zero, or a string literal, which begins with its bytes.
-#[derive(Drop)]
 pub struct Static {
     pub planned: Planned,
     pub text: Option<Bytes>,
+}
+
+impl Drop for Static {
+    fn drop(self) {
+        let Self {
+            planned: _,
+            text: _,
+        } = self;
+    }
 }
 
 /// A program in three-address code.
@@ -48,8 +66,13 @@ pub struct Program {
 }
 
 /// The parameters of a function, in order. Contracts see them as a list.
-#[derive(Drop)]
 pub struct Parameters(pub Vec<Parameter>);
+
+impl Drop for Parameters {
+    fn drop(self) {
+        let Self(_) = self;
+    }
+}
 
 impl Model for Parameters {
     ghost use Rattle.std.specs.Prelude.{List};
@@ -61,8 +84,13 @@ impl Model for Parameters {
 }
 
 /// The local variables of a function, in order. Contracts see them as a list.
-#[derive(Drop)]
 pub struct Locals(pub Vec<Planned>);
+
+impl Drop for Locals {
+    fn drop(self) {
+        let Self(_) = self;
+    }
+}
 
 impl Model for Locals {
     ghost use Rattle.std.specs.Prelude.{List};
@@ -74,8 +102,13 @@ impl Model for Locals {
 }
 
 /// The static objects and literals of a program, in order. Contracts see them as a list.
-#[derive(Drop)]
 pub struct Statics(pub Vec<Static>);
+
+impl Drop for Statics {
+    fn drop(self) {
+        let Self(_) = self;
+    }
+}
 
 impl Model for Statics {
     ghost use Rattle.std.specs.Prelude.{List};
@@ -87,8 +120,13 @@ impl Model for Statics {
 }
 
 /// The functions of a program, in order. Contracts see them as a list.
-#[derive(Drop)]
 pub struct Functions(pub Vec<Function>);
+
+impl Drop for Functions {
+    fn drop(self) {
+        let Self(_) = self;
+    }
+}
 
 impl Model for Functions {
     ghost use Rattle.std.specs.Prelude.{List};
@@ -104,8 +142,13 @@ impl Model for Functions {
 }
 
 /// Sites, in order. Contracts see them as a list.
-#[derive(Drop)]
 pub struct Sites(pub Vec<Site>);
+
+impl Drop for Sites {
+    fn drop(self) {
+        let Self(_) = self;
+    }
+}
 
 impl Model for Sites {
     ghost use Rattle.std.specs.Prelude.{List};
@@ -117,8 +160,13 @@ impl Model for Sites {
 }
 
 /// Bytes. Contracts see them as a list of numbers.
-#[derive(Drop)]
 pub struct Bytes(pub Vec<u8>);
+
+impl Drop for Bytes {
+    fn drop(self) {
+        let Self(_) = self;
+    }
+}
 
 impl Model for Bytes {
     ghost use Rattle.std.specs.Prelude.{List, ℕ};

@@ -7,9 +7,14 @@ use crate::ranges::is_in_range;
 use std::marker::Model;
 
 /// A cured program whose numbers are all in range. Contracts see it as its parts.
-#[derive(Drop)]
 pub struct Cured {
     parts: Parts,
+}
+
+impl Drop for Cured {
+    fn drop(self) {
+        let Self { parts: _ } = self;
+    }
 }
 
 impl Model for Cured {

@@ -16,7 +16,6 @@ pub enum Narrow {
 /// numbers. The slots that an instruction writes come before those that it reads, but where an address is stored to.
 /// In the lines below V, A, B, C, D, W, N and S are slots where the meaning says no more; docs/flat-machine.md has the
 /// whole meaning.
-#[derive(Drop)]
 #[cycle(code)]
 pub enum Instr {
     /// `const V N`: V becomes the number N.
@@ -129,6 +128,65 @@ pub enum Instr {
     Break(u32),
     /// `return A`: the function gives the words from A on.
     Return(u32),
+}
+
+impl Drop for Instr {
+    fn drop(self) {
+        match self {
+            Self::Const(_, _)
+            | Self::Copy(_, _)
+            | Self::Ext(_, _, _)
+            | Self::Add(_, _, _)
+            | Self::Sub(_, _, _)
+            | Self::Mul(_, _, _)
+            | Self::And(_, _, _)
+            | Self::Or(_, _, _)
+            | Self::Xor(_, _, _)
+            | Self::Shl(_, _, _)
+            | Self::Shr(_, _, _)
+            | Self::Sar(_, _, _)
+            | Self::Divu(_, _, _)
+            | Self::Divs(_, _, _)
+            | Self::Remu(_, _, _)
+            | Self::Rems(_, _, _)
+            | Self::Eq(_, _, _)
+            | Self::Ne(_, _, _)
+            | Self::Ltu(_, _, _)
+            | Self::Lts(_, _, _)
+            | Self::Ld(_, _, _)
+            | Self::St(_, _, _)
+            | Self::Ldw(_, _, _)
+            | Self::Stw(_, _, _)
+            | Self::Move(_, _, _)
+            | Self::Zero(_, _)
+            | Self::Len(_, _)
+            | Self::Plain(_, _, _, _)
+            | Self::Untag(_, _, _)
+            | Self::Tagged(_, _, _)
+            | Self::Base(_, _, _)
+            | Self::Mark(_, _, _)
+            | Self::Tmove(_, _, _, _, _)
+            | Self::Tzero(_, _, _)
+            | Self::Tdepth(_, _, _, _)
+            | Self::Frame(_, _)
+            | Self::Depth(_, _)
+            | Self::Below(_, _, _)
+            | Self::Sigof(_, _)
+            | Self::Room(_, _)
+            | Self::New(_, _, _, _)
+            | Self::Call(_, _, _)
+            | Self::Icall(_, _, _, _)
+            | Self::Get(_)
+            | Self::Put(_)
+            | Self::Exit(_)
+            | Self::Check(_, _, _)
+            | Self::If(_, _, _)
+            | Self::Block(_)
+            | Self::Loop(_)
+            | Self::Break(_)
+            | Self::Return(_) => {}
+        }
+    }
 }
 
 /// Instructions, in order: those of a body, or of a part of an instruction. A plain list, since instructions hold such

@@ -18,15 +18,19 @@ pub struct AreaLine {
 }
 
 /// A global: its area, and the bytes that it begins with. The bytes after these are 0.
-#[derive(Drop)]
 pub struct GlobalLine {
     pub area: AreaLine,
     pub first: Bytes,
 }
 
+impl Drop for GlobalLine {
+    fn drop(self) {
+        let Self { area: _, first: _ } = self;
+    }
+}
+
 /// A function: its signature's number, how many 64-bit slots it has, how many bytes each of its frames is charged, the
 /// areas of its frame, and its instructions.
-#[derive(Drop)]
 pub struct Function {
     pub sig: u32,
     pub slots: u32,
@@ -35,14 +39,36 @@ pub struct Function {
     pub body: Code,
 }
 
+impl Drop for Function {
+    fn drop(self) {
+        let Self {
+            sig: _,
+            slots: _,
+            charge: _,
+            locals: _,
+            body: _,
+        } = self;
+    }
+}
+
 /// A cured program: signatures, type nodes with their parents, globals and functions, each numbered from 0 but for the
 /// nodes, which are numbered from 1. Function 0 is where the program starts.
-#[derive(Drop)]
 pub struct Parts {
     pub sigs: Sigs,
     pub nodes: Parents,
     pub globals: Globals,
     pub functions: Functions,
+}
+
+impl Drop for Parts {
+    fn drop(self) {
+        let Self {
+            sigs: _,
+            nodes: _,
+            globals: _,
+            functions: _,
+        } = self;
+    }
 }
 
 /// The signatures of a program, in order. Contracts see them as a list.

@@ -20,11 +20,20 @@ use std::alloc::Global;
 use std::marker::Model;
 
 /// How many bytes the types of a program and their parts take once it is cured. Contracts see the table and the kinds.
-#[derive(Drop)]
 pub struct Layouts<'a> {
     types: &'a Types,
     kinds: &'a Kinds,
     layouts: Vec<CuredLayout>,
+}
+
+impl<'a> Drop for Layouts<'a> {
+    fn drop(self) {
+        let Self {
+            types: _,
+            kinds: _,
+            layouts: _,
+        } = self;
+    }
 }
 
 impl<'a> Model for Layouts<'a> {

@@ -27,10 +27,15 @@ pub(crate) struct Stop {
 }
 
 /// The part of which the layout of a type consists: how many cells it has, and its stops, from the start on.
-#[derive(Drop)]
 pub(crate) struct CuredLayout {
     pub(crate) size: u64,
     pub(crate) stops: Vec<Stop>,
+}
+
+impl Drop for CuredLayout {
+    fn drop(self) {
+        let Self { size: _, stops: _ } = self;
+    }
 }
 
 /// The bytes that an item takes once cured.

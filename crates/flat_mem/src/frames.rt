@@ -10,7 +10,6 @@ use std::marker::Model;
 
 /// The areas of a frame, laid out: how long the frame is, and where each area stands in it. A contract sees it as the list of
 /// the areas.
-#[derive(Drop)]
 pub struct FramePlan {
     areas: Vec<Area>,
     // the areas' addresses, counted from the frame's start
@@ -19,6 +18,17 @@ pub struct FramePlan {
     pub(crate) size: u64,
     // whether one of the areas is tagged
     tagged: bool,
+}
+
+impl Drop for FramePlan {
+    fn drop(self) {
+        let Self {
+            areas: _,
+            offsets: _,
+            size: _,
+            tagged: _,
+        } = self;
+    }
 }
 
 impl Model for FramePlan {

@@ -58,10 +58,20 @@ impl AreaList {
 /// What a flat memory is made for: how many functions there are, the globals' areas in order, and the limits of
 /// the charges of all live frames and of all heap blocks. The stack's and the heap's regions are three times as
 /// long as these limits.
-#[derive(Drop)]
 pub struct Plan {
     pub functions: u32,
     pub globals: AreaList,
     pub stack: u64,
     pub heap: u64,
+}
+
+impl Drop for Plan {
+    fn drop(self) {
+        let Self {
+            functions: _,
+            globals: _,
+            stack: _,
+            heap: _,
+        } = self;
+    }
 }

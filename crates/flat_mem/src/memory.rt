@@ -35,7 +35,6 @@ struct Mark {
 }
 
 /// The memory of the flat machine. All memory is taken when it is made.
-#[derive(Drop)]
 pub struct Flat {
     bytes: Vec<u8>,
     bounds: Bounds,
@@ -50,6 +49,22 @@ pub struct Flat {
     heap_charge: u64,
     // room for the tags that a move of tagged words reads before it writes
     spare_tags: Vec<bool>,
+}
+
+impl Drop for Flat {
+    fn drop(self) {
+        let Self {
+            bytes: _,
+            bounds: _,
+            marks: _,
+            addresses: _,
+            top: _,
+            charge: _,
+            heap_top: _,
+            heap_charge: _,
+            spare_tags: _,
+        } = self;
+    }
 }
 
 impl Model for Flat {

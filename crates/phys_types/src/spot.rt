@@ -39,9 +39,19 @@ pub struct Spot {
 
 /// The cells of a type: how many there are, the items among them in order, and whether the type holds a pointer by value.
 /// The cells between the items are raw.
-#[derive(Debug, Drop)]
+#[derive(Debug)]
 pub struct Layout {
     pub size: u64,
     pub spots: Vec<Spot>,
     pub holds: bool,
+}
+
+impl Drop for Layout {
+    fn drop(self) {
+        let Self {
+            size: _,
+            spots: _,
+            holds: _,
+        } = self;
+    }
 }
